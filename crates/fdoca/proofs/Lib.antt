@@ -1,0 +1,5 @@
+pub mod Tests
+pub mod Table
+pub mod Results
+pub mod Everything
+pub mod Examples

@@ -1,0 +1,29 @@
+-- Tests on numbers: from a fact to the test of a definition, from a test back to the fact, and definitions by cases.
+-- Assumes nothing.
+use mathlib.Core.Path.{_≡_, refl}
+use Prim.Native.Nat.{ℕ, _≤_, _<_}
+use mathlib.Core.Bool.{Bool, true, false}
+use lib.Dec.{leb, ltb, eqb}
+use borrow.Author.Tests.{lt-ltb, le-ltb, le-leb, lt-leb, eq-eqb, ne-eqb, ltb-true, ltb-false, leb-true, leb-false, eqb-true, eqb-false}
+use Rattle.fdoca.specs.Basics.{if_then_else_}
+
+-- for `search`, which finds the fact among what is known
+pub ruleset tests = (le-ltb, lt-ltb, le-leb, lt-leb, eq-eqb, ne-eqb)
+
+-- for `omega`, which reads the test among what is known
+pub ruleset facts = (ltb-true, ltb-false, leb-true, leb-false, eqb-true)
+
+-- what holds of both cases holds of a definition by cases
+pub by-test : {A : Type 0} (P : A → Type 0) (b : Bool) {x y : A} → (b ≡ true → P x) → (b ≡ false → P y) → P (if b then x else y)
+by-test P true f g = f refl
+by-test P false f g = g refl
+
+module _ {A : Type 0} (P : A → Type 0) (a b : ℕ) {x y : A} where
+  pub by-le : (a ≤ b → P x) → (b < a → P y) → P (if leb a b then x else y)
+  by-le f g = by-test P (leb a b) (λ t. f (leb-true a b t)) (λ t. g (leb-false a b t))
+
+  pub by-lt : (a < b → P x) → (b ≤ a → P y) → P (if ltb a b then x else y)
+  by-lt f g = by-test P (ltb a b) (λ t. f (ltb-true a b t)) (λ t. g (ltb-false a b t))
+
+  pub by-eq : (a ≡ b → P x) → ((a ≡ b → ⊥) → P y) → P (if eqb a b then x else y)
+  by-eq f g = by-test P (eqb a b) (λ t. f (eqb-true a b t)) (λ t. g (eqb-false a b t))

@@ -1,0 +1,99 @@
+-- What the calls give (document 01, "What the reader carries", "Numbers a caller can meet", "The item list and the dump program").
+use Prim.Native.Nat.{ℕ, _+_, _-_, _*_, _^_}
+use mathlib.Core.Bool.{Bool, true, false, _||_}
+use mathlib.Core.List.{List, [], _∷_, _++_, map, reverse}
+use mathlib.Core.Option.{Option, none, some}
+use lib.Dec.{ltb}
+use lib.IntN.{ℤ, pos, _-ℤ_}
+use lib.ListN.{length, take, drop, getElem?}
+use Rattle.fdoca.specs.declared.Checked.{Checked}
+use Rattle.fdoca.specs.declared.Listed.{Listed}
+use Rattle.fdoca.specs.declared.State.{State}
+use Rattle.fdoca.specs.declared.Whole.{Whole}
+use Rattle.fdoca.specs.Basics.{if_then_else_, big, Result, refuse, ok, _>>=_, _>>_, reject, the}
+use Rattle.fdoca.specs.FieldType.{FieldType, fixedBytes, variableBytes, terminatedBytes, shortBytes, integer, reversedInteger, hexFloat, reversedFloat, binaryFloat}
+use Rattle.fdoca.specs.Walk.{Note, walk}
+use Rattle.fdoca.specs.Check.{check, maxDescriptor}
+use Rattle.fdoca.specs.Unfolding.{unfolded}
+
+abbrev pub maxData : ℕ
+maxData = 32768
+
+-- Descriptor or data over its limit.
+abbrev pub oversize : List ℕ → List ℕ → Bool
+oversize d s = ltb maxDescriptor (length d) || ltb maxData (length s)
+
+-- The item list of n items in a block of `size` bytes: two numbers, two arrays, and the entries beyond with their old contents.
+abbrev pub itemList : (n size : ℕ) → List Note → List ℕ → List ℕ
+itemList n size ns old = n ∷ size ∷ map (λ i. i .start) ns ++ map (λ i. i .field .id) ns ++ drop (2 + 2 * n) old
+
+-- The list call: the caller's list afterwards, or the refusal.
+unfoldable pub list : List ℕ → List ℕ → List ℕ → Result (List ℕ)
+list d s old = do
+  reject (oversize d s) 1 0
+  n ← check d
+  reject (ltb (length old) (2 + 2 * n)) 12 0
+  ns ← walk (unfolded d) s
+  ok (itemList n (length s) ns old)
+
+-- The note of item k, numbered from 0: what the state call, lending and the whole-number read go by.
+unfoldable pub itemAt : List ℕ → List ℕ → (k : ℕ) → Result Note
+itemAt d s k = do
+  reject (oversize d s) 1 0
+  n ← check d
+  ns ← walk (unfolded d) s
+  the (getElem? ns k) 17 0
+
+-- The bytes of an item's value: the part of the data that holds it.
+abbrev pub valueOf : List ℕ → Note → List ℕ
+valueOf s i = take (i .value) (drop (i .start + i .prefix) s)
+
+-- Two's complement at any width, most significant byte first: from half on, a number stands for itself less the number of all.
+unfoldable pub signed : List ℕ → ℤ
+signed bs = if ltb (2 * big bs) (256 ^ length bs) then pos (big bs) else pos (big bs) -ℤ pos (256 ^ length bs)
+
+-- The whole number that a type's value bytes stand for: X'23' has the most significant byte first, X'24' reversed; no other type has one.
+unfoldable pub wholeOf : FieldType → List ℕ → Option ℤ
+wholeOf integer bs = some (signed bs)
+wholeOf reversedInteger bs = some (signed (reverse bs))
+wholeOf fixedBytes bs = none
+wholeOf variableBytes bs = none
+wholeOf terminatedBytes bs = none
+wholeOf shortBytes bs = none
+wholeOf hexFloat bs = none
+wholeOf reversedFloat bs = none
+wholeOf binaryFloat bs = none
+
+-- The whole-number read, of a null too: 18 goes by the type.
+unfoldable pub wholeNumber : List ℕ → List ℕ → (k : ℕ) → Result (Bool × ℤ)
+wholeNumber d s k = do
+  i ← itemAt d s k
+  z ← the (wholeOf (i .field .type) (valueOf s i)) 18 (i .start)
+  ok (i .isNull, if i .isNull then pos 0 else z)
+
+-- The answers: an accepted call gives number 0 and place 0, a refusal zeros and no null mark.
+abbrev pub checked : Result ℕ → Checked
+checked (refuse n p) = record { number = n; place = p; items = 0 }
+checked (ok n) = record { number = 0; place = 0; items = n }
+
+-- The list call's answer, and every entry of the caller's list afterwards: on a refusal the list is as before.
+abbrev pub listed : Result (List ℕ) → Listed
+listed (refuse n p) = record { number = n; place = p }
+listed (ok l) = record { number = 0; place = 0 }
+
+abbrev pub entriesAfter : List ℕ → Result (List ℕ) → List ℕ
+entriesAfter old (refuse n p) = old
+entriesAfter old (ok l) = l
+
+abbrev pub stateOf : Result Note → State
+stateOf (refuse n p) = record { number = n; place = p; null = false; code = 0; length = 0 }
+stateOf (ok i) = record { number = 0; place = 0; null = i .isNull; code = i .field .code; length = i .value }
+
+-- The lent part's bytes: none on a null or a refusal. Where an empty part lies is free.
+abbrev pub lent : List ℕ → Result Note → List ℕ
+lent s (refuse n p) = []
+lent s (ok i) = valueOf s i
+
+abbrev pub wholeAnswer : Result (Bool × ℤ) → Whole
+wholeAnswer (refuse n p) = record { number = n; place = p; null = false; value = pos 0 }
+wholeAnswer (ok v) = record { number = 0; place = 0; null = v .0; value = v .1 }

@@ -1,0 +1,9 @@
+pub mod Basics
+pub mod FieldType
+pub mod Item
+pub mod Walk
+pub mod Triplet
+pub mod Check
+pub mod Unfolding
+pub mod Calls
+pub mod Account

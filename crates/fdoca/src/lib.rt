@@ -1,0 +1,32 @@
+// The definitions of FD:OCA descriptors and data blocks stand in specs/, and theorems about them in proofs/. This file has the types
+// of what the calls answer. An accepted call has number 0 and place 0; a refusal has its number and place, and zeros.
+
+// The check of a descriptor: how many items it describes.
+pub struct Checked {
+    pub number: u32,
+    pub place: u32,
+    pub items: u32,
+}
+
+// The list call, which writes its results into the caller's list.
+pub struct Listed {
+    pub number: u32,
+    pub place: u32,
+}
+
+// An item's state.
+pub struct State {
+    pub number: u32,
+    pub place: u32,
+    pub null: bool,
+    pub code: u8,
+    pub length: u32,
+}
+
+// A whole-number item.
+pub struct Whole {
+    pub number: u32,
+    pub place: u32,
+    pub null: bool,
+    pub value: i64,
+}
