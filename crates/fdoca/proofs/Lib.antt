@@ -3,3 +3,12 @@ pub mod Table
 pub mod Results
 pub mod Everything
 pub mod Examples
+pub mod Within
+pub mod Account
+pub mod Refusals
+pub mod Cover
+pub mod Stops
+pub mod Blocks
+pub mod Count
+pub mod Limits
+pub mod Calls

@@ -1,0 +1,170 @@
+-- The walk accepts exactly the byte strings that are the items of its fields by the standard's account, one after the other and nothing behind
+-- them; there is one way only to cut them so.
+-- Assumes nothing.
+use mathlib.Core.Path.{_≡_, refl, sym, ap, _∙_, subst}
+use Prim.Native.Nat.{ℕ, suc, _+_, _<_, _≤_}
+use native.Mathlib.Omega.{arith}
+use mathlib.Core.Bool.{Bool, true, false}
+use mathlib.Core.List.{List, [], _∷_, _++_, append-assoc}
+use lib.Dec.{ltb}
+use lib.ListN.{length, take, drop, length-append}
+use lib.Seq.{take-at, drop-at, drop-drop}
+use borrow.Author.Tests.{ltb-false, le-ltb}
+use Rattle.fdoca.specs.Basics.{Result, refuse, ok, _>>=_, _>>_, reject}
+use Rattle.fdoca.specs.Item.{Field, Measured, refused, item, measure}
+use Rattle.fdoca.specs.Account.{Item, Parts, Begins, Block, done, next}
+use Rattle.fdoca.specs.Walk.{Note, itemLength, Cut, noteOf, with, cutFrom, walk}
+use Rattle.fdoca.proofs.Account.{sizes, measure-sound, measure-complete}
+use Rattle.fdoca.proofs.Results.{IfOk, none-owed, holds, bind-all, reject-all, ok-of}
+
+-- an item's bytes, one run after the other, with others behind them
+abbrev pub onto : Parts → List ℕ → List ℕ
+onto x s = x .prefix ++ (x .value ++ (x .padding ++ s))
+
+-- the note of an item's parts at a position
+abbrev pub noteOfParts : ℕ → Field → Parts → Note
+noteOfParts p f x =
+    record { start = p; field = f; isNull = x .isNull; prefix = length (x .prefix); value = length (x .value); padding = length (x .padding) }
+
+-- what the walk notes of a block's items, laid end to end from p on
+abbrev pub notesOf : ℕ → List Field → List Parts → List Note
+notesOf p [] xs = []
+notesOf p (f ∷ fs) [] = []
+notesOf p (f ∷ fs) (x ∷ xs) = noteOfParts p f x ∷ notesOf (p + itemLength (noteOfParts p f x)) fs xs
+
+behind : (x : Parts) (s : List ℕ) → drop (length (x .prefix) + length (x .value) + length (x .padding)) (onto x s) ≡ s
+behind x s =
+    let a : List ℕ = x .prefix ++ (x .value ++ x .padding) in
+    let e : length a ≡ length (x .prefix) + length (x .value) + length (x .padding) = simp length-append (omega arith) in
+    let q : onto x s ≡ a ++ s = simp append-assoc in
+    rw q (drop-at a s (length (x .prefix) + length (x .value) + length (x .padding)) e)
+
+-- the position behind a block's items
+abbrev endOf : ℕ → List Field → List Parts → ℕ
+endOf p [] xs = p
+endOf p (f ∷ fs) [] = p
+endOf p (f ∷ fs) (x ∷ xs) = endOf (p + itemLength (noteOfParts p f x)) fs xs
+
+cut-block : (p : ℕ) (fs : List Field) (xs : List Parts) (s : List ℕ) → Block fs xs s
+    → cutFrom p fs s ≡ ok (record { notes = notesOf p fs xs; end = endOf p fs xs; rest = [] })
+unfolding cutFrom noteOf
+cut-block p fs xs s done = refl
+cut-block p fs xs s (next {f = f} {fs = fs′} {ps = ps} {s = t} x i b) =
+    let e : measure f (onto x t) ≡ sizes x = measure-complete f (onto x t) x (record { rest = t; split = refl; account = i }) in
+    rw (e, behind x t, cut-block (p + itemLength (noteOfParts p f x)) fs′ ps t b)
+
+-- A block of the account is accepted, and its items are noted.
+pub walk-complete : (fs : List Field) (xs : List Parts) (s : List ℕ) → Block fs xs s → walk fs s ≡ ok (notesOf 0 fs xs)
+unfolding walk
+walk-complete fs xs s b = rw (cut-block 0 fs xs s b)
+
+-- a note is that of an item's parts, with which the bytes begin
+record NotedAs (f : Field) (p : ℕ) (s : List ℕ) (n : Note) : Type 0 where
+  parts : Parts
+  begins : Begins f s parts
+  same : n ≡ noteOfParts p f parts
+
+note-sound : (f : Field) (p : ℕ) (s : List ℕ) → IfOk (NotedAs f p s) (noteOf f p (measure f s))
+unfolding noteOf
+note-sound f p s = go (measure f s) refl
+  where
+    go : (m : Measured) → measure f s ≡ m → IfOk (NotedAs f p s) (noteOf f p m)
+    go (refused k) e = none-owed
+    go (item z l v r) e =
+        let q = measure-sound f s z l v r e in
+        let w : _≡_ {A = Result Note} (noteOf f p (item z l v r)) (noteOf f p (sizes (q .0))) = ap (noteOf f p) (sym (q .2)) in
+        let y : NotedAs f p s (record { start = p; field = f; isNull = z; prefix = l; value = v; padding = r }) =
+        record { parts = q .0; begins = q .1; same = cc } in
+        holds y
+
+-- the items of a cut, and the bytes behind them
+record CutBlock (p : ℕ) (fs : List Field) (s : List ℕ) (c : Cut) : Type 0 where
+  parts : List Parts
+  noted : c .notes ≡ notesOf p fs parts
+  block : c .rest ≡ [] → Block fs parts s
+
+cut-sound : (p : ℕ) (fs : List Field) (s : List ℕ) → IfOk (CutBlock p fs s) (cutFrom p fs s)
+unfolding cutFrom
+cut-sound p [] s =
+    let r : CutBlock p [] s (record { notes = []; end = p; rest = s }) = record { parts = []; noted = refl; block = λ e. rw e done } in
+    holds r
+cut-sound p (f ∷ fs) s =
+    bind-all (noteOf f p (measure f s)) (note-sound f p s)
+    (λ n h. let x : Parts = h .parts in
+    let N : Note = noteOfParts p f x in
+    let b : Begins f s x = h .begins in
+    let d : drop (itemLength N) s ≡ b .rest = ap (drop (itemLength N)) (b .split) ∙ behind x (b .rest) in
+    let back : onto x (drop (itemLength N) s) ≡ s = ap (onto x) d ∙ sym (b .split) in
+    rw (h .same)
+    (bind-all (cutFrom (p + itemLength N) fs (drop (itemLength N) s)) (cut-sound (p + itemLength N) fs (drop (itemLength N) s))
+    (λ c k. let r : CutBlock p (f ∷ fs) s (with N c) =
+    record {
+      parts = x ∷ k .parts;
+      noted = ap (λ l. N ∷ l) (k .noted);
+      block = λ e. subst (λ t. Block (f ∷ fs) (x ∷ k .parts) t) back (next x (b .account) (k .block e));
+    } in
+    holds r)))
+
+nil-of-length : (x : List ℕ) → length x ≡ 0 → x ≡ []
+nil-of-length [] e = refl
+nil-of-length (b ∷ x) e = absurd (let z : ⊥ = omega arith in z)
+
+-- an accepted block's parts
+pub record Accepted (fs : List Field) (s : List ℕ) (ns : List Note) : Type 0 where
+  pub parts : List Parts
+  pub block : Block fs parts s
+  pub noted : ns ≡ notesOf 0 fs parts
+
+accepted : (fs : List Field) (s : List ℕ) → IfOk (Accepted fs s) (walk fs s)
+unfolding walk
+accepted fs s =
+    bind-all (cutFrom 0 fs s) (cut-sound 0 fs s)
+    (λ c k. reject-all (ltb 0 (length (c .rest))) 16 (c .end)
+    (λ h. let e : c .rest ≡ [] = nil-of-length (c .rest) (omega (arith, ltb-false 0 (length (c .rest)) h)) in
+    let r : Accepted fs s (c .notes) = record { parts = k .parts; block = k .block e; noted = k .noted } in
+    holds r))
+
+-- What is accepted is a block of the account, with the items noted.
+pub walk-sound : (fs : List Field) (s : List ℕ) (ns : List Note) → walk fs s ≡ ok ns → Accepted fs s ns
+walk-sound fs s ns e = ok-of (rw e at (accepted fs s))
+
+-- the parts with which bytes begin, from their lengths
+first-parts : (x : Parts) (s t : List ℕ) → s ≡ onto x t
+    → (x .prefix ≡ take (length (x .prefix)) s)
+    × (x .value ≡ take (length (x .value)) (drop (length (x .prefix)) s))
+    × (x .padding ≡ take (length (x .padding)) (drop (length (x .prefix) + length (x .value)) s))
+first-parts x s t e =
+    let a : x .prefix ≡ take (length (x .prefix)) s = rw e (sym (take-at (x .prefix) (x .value ++ (x .padding ++ t)) (length (x .prefix)) refl)) in
+    let d : drop (length (x .prefix)) s ≡ x .value ++ (x .padding ++ t) = rw e (drop-at (x .prefix) (x .value ++ (x .padding ++ t)) (length (x .prefix)) refl) in
+    let b : x .value ≡ take (length (x .value)) (drop (length (x .prefix)) s) = rw d (sym (take-at (x .value) (x .padding ++ t) (length (x .value)) refl)) in
+    let q : drop (length (x .prefix) + length (x .value)) s ≡ x .padding ++ t = sym (drop-drop (length (x .value)) (length (x .prefix)) s) ∙ rw d (drop-at (x .value) (x .padding ++ t) (length (x .value)) refl) in
+    let c : x .padding ≡ take (length (x .padding)) (drop (length (x .prefix) + length (x .value)) s) = rw q (sym (take-at (x .padding) t (length (x .padding)) refl)) in
+    (a, b, c)
+
+abbrev made : Bool → List ℕ → List ℕ → List ℕ → Parts
+made z p v r = record { isNull = z; prefix = p; value = v; padding = r }
+
+-- two items with which the same bytes begin
+same-parts : (f : Field) (s : List ℕ) (x y : Parts) → Begins f s x → Begins f s y → x ≡ y
+same-parts f s x y a b =
+    let e : sizes x ≡ sizes y = sym (measure-complete f s x a) ∙ measure-complete f s y b in
+    let z : x .isNull ≡ y .isNull = cc in
+    let n₁ : length (x .prefix) ≡ length (y .prefix) = cc in
+    let n₂ : length (x .value) ≡ length (y .value) = cc in
+    let n₃ : length (x .padding) ≡ length (y .padding) = cc in
+    let p = first-parts x s (a .rest) (a .split) in
+    let q = first-parts y s (b .rest) (b .split) in
+    let l₁ : x .prefix ≡ y .prefix = p .0 ∙ ap (λ n. take n s) n₁ ∙ sym (q .0) in
+    let l₂ : x .value ≡ y .value = p .1 ∙ rw (n₁, n₂) (sym (q .1)) in
+    let l₃ : x .padding ≡ y .padding = p .2 ∙ rw (n₁, n₂, n₃) (sym (q .2)) in
+    let r : made (x .isNull) (x .prefix) (x .value) (x .padding) ≡ made (y .isNull) (y .prefix) (y .value) (y .padding) = rw (z, l₁, l₂, l₃) in
+    r
+
+-- There is one way only to cut a block into its fields' items.
+pub one-way : (fs : List Field) (xs ys : List Parts) (s t : List ℕ) → Block fs xs s → Block fs ys t → s ≡ t → xs ≡ ys
+one-way fs xs ys s t done done e = refl
+one-way fs xs ys s t (next {f = f} {fs = gs} {ps = ps} {s = s′} x i b) (next {ps = qs} {s = t′} y j c) e =
+    let h : x ≡ y = same-parts f s x y (record { rest = s′; split = refl; account = i }) (record { rest = t′; split = e; account = j }) in
+    let l : drop (length (x .prefix) + length (x .value) + length (x .padding)) s ≡ t′ = rw (e, h) (behind y t′) in
+    let r : ps ≡ qs = one-way gs ps qs s′ t′ b c (sym (behind x s′) ∙ l) in
+    cc

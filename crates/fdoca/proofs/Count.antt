@@ -1,0 +1,171 @@
+-- The count that the check gives of an accepted descriptor is the length of its unfolding.
+-- The check's state is at every triplet the image of the unfolding's: extents for fields with extents, counts for lists.
+-- Assumes nothing.
+use mathlib.Core.Path.{_≡_, refl, sym, ap, _∙_, subst}
+use Prim.Native.Nat.{ℕ, zero, suc, _+_, _-_, _*_, _≤_}
+use native.Mathlib.Omega.{arith}
+use native.Mathlib.Nat.{suc-mul, zero-mul}
+use mathlib.Core.Bool.{Bool, true, false, not, _&&_, true≢false}
+use mathlib.Core.List.{List, [], _∷_, _++_, map}
+use mathlib.Core.Option.{Option, none, some}
+use lib.Dec.{leb, ltb, eqb}
+use lib.ListN.{length, replicate, length-append, length-replicate}
+use Rattle.fdoca.specs.Basics.{if_then_else_, elem, lookup, repeat, product, Result, refuse, ok, _>>=_, _>>_, reject, the}
+use Rattle.fdoca.specs.Triplet.{Triplet, torn, triplet, triplets, Construct, SDA, RLO, ISD, CPT, constructOf, idOf, codeOf, parametersOf, extentsOf, Group, groupsOf}
+use Rattle.fdoca.specs.FieldType.{FieldType, typeOf}
+use Rattle.fdoca.specs.Item.{Field}
+use Rattle.fdoca.proofs.Results.{IfOk, none-owed, holds, bind-all, the-all, reject-all, ok-of}
+use Rattle.fdoca.specs.Check as C
+use Rattle.fdoca.specs.Unfolding as U
+
+-- the check's view of what the unfolding keeps
+abbrev pub entry : U.Described → C.Entry
+entry (U.array f xs) = C.array xs
+entry (U.row l) = C.row (length l)
+
+abbrev pub entries : List (ℕ × U.Described) → List (ℕ × C.Entry)
+entries [] = []
+entries (d ∷ ds) = (d .0, entry (d .1)) ∷ entries ds
+
+abbrev pub entry? : Option U.Described → Option C.Entry
+entry? none = none
+entry? (some d) = some (entry d)
+
+abbrev pub counted : Option (ℕ × List Field) → Option (ℕ × ℕ)
+counted none = none
+counted (some r) = some (r .0, length (r .1))
+
+abbrev pub state : U.Layouts → C.State
+state u = record { described = entries (u .described); current = counted (u .current) }
+
+entry-if : (b : Bool) (x y : Option U.Described) → (if b then entry? x else entry? y) ≡ entry? (if b then x else y)
+entry-if true x y = refl
+entry-if false x y = refl
+
+lookup-entries : (i : ℕ) (ds : List (ℕ × U.Described)) → lookup i (entries ds) ≡ entry? (lookup i ds)
+lookup-entries i [] = refl
+lookup-entries i (d ∷ ds) = rw (lookup-entries i ds) (entry-if (eqb i (d .0)) (some (d .1)) (lookup i ds))
+
+pub closed-state : (u : U.Layouts) → C.closed (state u) ≡ entries (U.closed u)
+closed-state u = go (u .current)
+  where
+    go : (o : Option (ℕ × List Field)) → C.closeRow (entries (u .described)) (counted o) ≡ entries (U.closeRow (u .described) o)
+    go none = refl
+    go (some r) = refl
+
+length-repeat : (n : ℕ) (l : List Field) → length (repeat n l) ≡ n * length l
+length-repeat zero l = sym (zero-mul (length l))
+length-repeat (suc n) l = length-append l (repeat n l) ∙ omega (arith, length-repeat n l)
+
+pub length-fieldsOf : (d : U.Described) → length (U.fieldsOf d) ≡ C.countOf (entry d)
+length-fieldsOf (U.array f xs) = length-replicate (product xs) f
+length-fieldsOf (U.row l) = refl
+
+length-taken : (k : ℕ) (d : U.Described) (m : ℕ) → C.countTaken k (entry d) ≡ some m → length (U.fieldsTaken k d) ≡ m
+length-taken zero d m e = length-fieldsOf d ∙ cc
+length-taken (suc k) (U.array f []) m e = cc
+length-taken (suc k) (U.array f (x ∷ xs)) m e = length-replicate (suc k * product xs) f ∙ cc
+length-taken (suc k) (U.row l) m e = cc
+
+add-group : (p n : ℕ) (g : Group) (o : Option U.Described)
+    → IfOk (λ m. m ≡ n + length (repeat (g .factor) (U.fieldsReferred (g .taken) o))) (C.addGroup p n g (entry? o))
+unfolding C.addGroup
+add-group p n g none = none-owed
+add-group p n g (some d) =
+    reject-all (eqb (g .factor) 0) 9 p
+    (λ h. the-all (C.countTaken (g .taken) (entry d)) 9 p
+    (λ k e. reject-all (ltb C.maxItems (n + g .factor * k)) 10 p
+    (λ h′. holds (rw (length-repeat, length-taken (g .taken) d k e)))))
+
+add-groups : (p : ℕ) (ds : List (ℕ × U.Described)) (l : List Field) (gs : List Group)
+    → IfOk (λ m. m ≡ length (U.addFields ds l gs)) (C.addGroups p (entries ds) (length l) gs)
+unfolding C.addGroups U.addFields
+add-groups p ds l [] = holds refl
+add-groups p ds l (g ∷ gs) =
+    rw (lookup-entries (g .ref) ds)
+    (bind-all (C.addGroup p (length l) g (entry? (lookup (g .ref) ds))) (add-group p (length l) g (lookup (g .ref) ds))
+    (λ m e. let e′ : m ≡ length (l ++ U.groupFields ds g) = e ∙ sym (length-append l (U.groupFields ds g)) in
+    rw e′ (add-groups p ds (l ++ U.groupFields ds g) gs)))
+
+-- a type code without a rule is refused
+no-rule : (a b : Bool) → (a && false && b) ≡ false
+no-rule true b = refl
+no-rule false b = refl
+
+check-SDA : (u : U.Layouts) (p : ℕ) (t : List ℕ) (o : Option FieldType) → typeOf (codeOf t) ≡ o
+    → IfOk (λ st. st ≡ state (U.unfoldSDA o u t)) (C.checkSDA (entries (U.closed u)) p t)
+unfolding C.checkSDA U.unfoldSDA
+check-SDA u p t none e =
+    reject-all (not (C.goodLengthSDA t)) 5 p
+    (λ h. reject-all (not (C.goodSDA t)) 6 p
+    (λ h₁. let g : C.goodSDA t ≡ false = rw e (no-rule (not (eqb (idOf t) 0)) (not (elem 0 (extentsOf t)))) in
+    absurd (true≢false (sym (ap not g) ∙ h₁))))
+check-SDA u p t (some T) e =
+    reject-all (not (C.goodLengthSDA t)) 5 p
+    (λ h. reject-all (not (C.goodSDA t)) 6 p
+    (λ h₁. reject-all (C.isDescribed (idOf t) (entries (U.closed u))) 7 p
+    (λ h₂. reject-all (ltb C.maxItems (product (extentsOf t))) 10 p
+    (λ h₃. holds refl))))
+
+check-RLO : (u : U.Layouts) (p : ℕ) (t : List ℕ) → IfOk (λ st. st ≡ state (U.unfoldRLO u t)) (C.checkRLO (entries (U.closed u)) p t)
+unfolding C.checkRLO U.unfoldRLO
+check-RLO u p t =
+    reject-all (not (C.goodLengthRow t)) 5 p
+    (λ h. reject-all (eqb (idOf t) 0) 6 p
+    (λ h₁. reject-all (C.isDescribed (idOf t) (entries (U.closed u))) 7 p
+    (λ h₂. bind-all (C.addGroups p (entries (U.closed u)) 0 (groupsOf t)) (add-groups p (U.closed u) [] (groupsOf t)) (λ n e. holds (rw e)))))
+
+check-CPT : (u : U.Layouts) (p : ℕ) (t : List ℕ) → IfOk (λ st. st ≡ state (U.unfoldCPT (u .current) u t)) (C.checkCPT (state u) p t)
+unfolding C.checkCPT U.unfoldCPT
+check-CPT u p t = go (u .current)
+  where
+    go : (o : Option (ℕ × List Field))
+        → IfOk (λ st. st ≡ state (U.unfoldCPT o u t)) (C.checkCPT (record { described = entries (u .described); current = counted o }) p t)
+    go none = none-owed
+    go (some r) =
+        reject-all (not (C.goodLengthRow t)) 5 p (λ h. reject-all (not (eqb (idOf t) 0)) 6 p
+        (λ h₁. bind-all (C.addGroups p (entries (u .described)) (length (r .1)) (groupsOf t)) (add-groups p (u .described) (r .1) (groupsOf t))
+        (λ n e. holds (rw e))))
+
+check-ISD : (u : U.Layouts) (p : ℕ) (t : List ℕ) → IfOk (λ st. st ≡ state u) (C.checkISD (state u) p t)
+unfolding C.checkISD
+check-ISD u p t =
+    reject-all (not (eqb p 0)) 4 p
+    (λ h. reject-all (not (C.goodLengthISD t)) 5 p
+    (λ h₁. reject-all (not (C.goodISD t)) 6 p
+    (λ h₂. holds refl)))
+
+check-construct : (c : Option Construct) (u : U.Layouts) (p : ℕ) (t : List ℕ)
+    → IfOk (λ st. st ≡ state (U.unfoldConstruct c u t)) (C.checkConstruct c (state u) p t)
+unfolding C.checkConstruct U.unfoldConstruct
+check-construct none u p t = none-owed
+check-construct (some SDA) u p t = rw (closed-state u) (check-SDA u p t (typeOf (codeOf t)) refl)
+check-construct (some RLO) u p t = rw (closed-state u) (check-RLO u p t)
+check-construct (some ISD) u p t = check-ISD u p t
+check-construct (some CPT) u p t = check-CPT u p t
+
+check-triplet : (u : U.Layouts) (t : Triplet) → IfOk (λ st. st ≡ state (U.unfoldTriplet u t)) (C.checkTriplet (state u) t)
+unfolding C.checkTriplet U.unfoldTriplet
+check-triplet u (torn p) = none-owed
+check-triplet u (triplet p t) = check-construct (constructOf t) u p t
+
+pub check-triplets : (u : U.Layouts) (ts : List Triplet) → IfOk (λ st. st ≡ state (U.unfoldTriplets u ts)) (C.checkTriplets (state u) ts)
+unfolding C.checkTriplets U.unfoldTriplets
+check-triplets u [] = holds refl
+check-triplets u (t ∷ ts) =
+    bind-all (C.checkTriplet (state u) t) (check-triplet u t) (λ st e. rw e (check-triplets (U.unfoldTriplet u t) ts))
+
+last-count : (size : ℕ) (ds : List (ℕ × U.Described)) → IfOk (λ n. n ≡ length (U.lastFields ds)) (C.lastCount size (entries ds))
+last-count size [] = none-owed
+last-count size (d ∷ ds) = holds (sym (length-fieldsOf (d .1)))
+
+check-count : (d : List ℕ) → IfOk (λ n. n ≡ length (U.unfolded d)) (C.check d)
+unfolding C.check U.unfolded
+check-count d =
+    reject-all (ltb C.maxDescriptor (length d)) 1 0
+    (λ h. bind-all (C.checkTriplets C.begin (triplets d)) (check-triplets U.start (triplets d))
+    (λ st e. rw (e, closed-state (U.unfoldTriplets U.start (triplets d))) (last-count (length d) (U.closed (U.unfoldTriplets U.start (triplets d))))))
+
+-- The check's count of an accepted descriptor is the length of its unfolding.
+pub count-is-length : (d : List ℕ) (n : ℕ) → C.check d ≡ ok n → length (U.unfolded d) ≡ n
+count-is-length d n e = sym (ok-of (rw e at (check-count d)))
