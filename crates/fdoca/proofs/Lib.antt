@@ -3,6 +3,7 @@ pub mod Table
 pub mod Results
 pub mod Everything
 pub mod Examples
+pub mod Outcomes
 pub mod Within
 pub mod Account
 pub mod Refusals

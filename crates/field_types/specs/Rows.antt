@@ -1,0 +1,81 @@
+-- The two tables (document 01, "Field types"): a field type's row, and a row's rule, which is the rule of its type in numbers.
+use Prim.Native.Nat.{ℕ, zero, suc, _+_}
+use mathlib.Core.Bool.{false}
+use mathlib.Core.List.{List, []}
+use mathlib.Core.Option.{Option, none, some}
+use lib.Dec.{eqb}
+use lib.ListN.{getD, getElem?}
+use Rattle.fdoca.specs.Basics.{if_then_else_}
+use Rattle.fdoca.specs.FieldType.{FieldType, fixedBytes, variableBytes, terminatedBytes, shortBytes, integer, reversedInteger, hexFloat, reversedFloat, binaryFloat, types, Layout, fixed, counted, terminated, signedTwo, unsignedOne, Lengths, upTo, oneOf, rule, ruleOf}
+use Rattle.fdoca.specs.FieldType as definition
+use Rattle.fdoca.specs.Check.{most}
+use Rattle.field_types.specs.declared.Rule.{Rule}
+
+-- The rows: 0 for none, then the types in the order of `types`.
+unfoldable pub rowOf : Option FieldType → ℕ
+rowOf none = 0
+rowOf (some fixedBytes) = 1
+rowOf (some variableBytes) = 2
+rowOf (some terminatedBytes) = 3
+rowOf (some shortBytes) = 4
+rowOf (some integer) = 5
+rowOf (some reversedInteger) = 6
+rowOf (some hexFloat) = 7
+rowOf (some reversedFloat) = 8
+rowOf (some binaryFloat) = 9
+
+abbrev pub typeOfEntry : Option (ℕ × FieldType) → Option FieldType
+typeOfEntry none = none
+typeOfEntry (some e) = some (e .1)
+
+-- The type of a row: none in row 0 and past the table.
+unfoldable pub typeAt : ℕ → Option FieldType
+typeAt zero = none
+typeAt (suc k) = typeOfEntry (getElem? types k)
+
+-- A layout's number, and the layout of a number.
+unfoldable pub prefixOf : Layout → ℕ
+prefixOf fixed = 0
+prefixOf (counted unsignedOne) = 1
+prefixOf (counted signedTwo) = 2
+prefixOf terminated = 3
+
+unfoldable pub layoutOf : ℕ → Layout
+layoutOf n =
+    if eqb n 0 then fixed
+    else if eqb n 1 then counted unsignedOne
+    else if eqb n 2 then counted signedTwo
+    else terminated
+
+-- The field lengths: all below a number, or some sizes.
+unfoldable pub topOf : Lengths → ℕ
+topOf (upTo n) = n + 1
+topOf (oneOf ns) = 0
+
+unfoldable pub sizesOf : Lengths → List ℕ
+sizesOf (upTo n) = []
+sizesOf (oneOf ns) = ns
+
+-- The size at k, or a number that no field length is, since two bytes do not hold it.
+abbrev pub noSize : ℕ
+noSize = 65536
+
+unfoldable pub sizeAt : Lengths → (k : ℕ) → ℕ
+sizeAt l k = getD (sizesOf l) k noSize
+
+-- A rule as the table holds it.
+unfoldable pub inNumbers : definition.Rule → Rule
+inNumbers r = record { top = topOf (r .lengths); size1 = sizeAt (r .lengths) 0; size2 = sizeAt (r .lengths) 1; size3 = sizeAt (r .lengths) 2; modes = most (r .hasMode); biases = most (r .hasBias); prefix = prefixOf (r .layout) }
+
+-- The rule by which a code is judged: where there is no type, no field length is allowed.
+unfoldable pub ruleFor : Option FieldType → definition.Rule
+ruleFor none = rule fixed (oneOf []) false false
+ruleFor (some T) = ruleOf T
+
+-- That rule in the table.
+unfoldable pub encoded : Option FieldType → Rule
+encoded o = inNumbers (ruleFor o)
+
+-- The rule in a row.
+unfoldable pub ruleAt : ℕ → Rule
+ruleAt row = encoded (typeAt row)

@@ -1,0 +1,487 @@
+// Field types (document 01, "Field types"): the row of a type code, the rule of each row, and the test of an SDA's type parameters.
+ghost use mathlib.Core.Path.{_≡_};
+ghost use Prim.Native.Nat.{_<_};
+ghost use mathlib.Core.List.{[], _∷_};
+ghost use lib.ListN.{length};
+ghost use Rattle.fdoca.specs.Basics.{big};
+ghost use Rattle.fdoca.specs.FieldType.{typeOf, nullable};
+ghost use Rattle.field_types.specs.Rows.{rowOf, ruleAt};
+ghost use Rattle.field_types.specs.Parameters.{unusedZero, ruleAllows, goodEight};
+
+// A number that no field length is, since two bytes do not hold it.
+const NO_SIZE: usize = 65536;
+
+// What a field type allows as its type parameters, and how long its values are.
+pub struct Rule {
+    // The field length is below `top`, or is one of three sizes.
+    pub top: usize,
+    pub size1: usize,
+    pub size2: usize,
+    pub size3: usize,
+    // The largest mode, and the largest bias indicator.
+    pub modes: u8,
+    pub biases: usize,
+    // A value has the field length (0), follows a length field of one or two bytes (1, 2), or ends before a zero byte (3).
+    pub prefix: u8,
+}
+
+// The row of each type code, 0 for none.
+const ROWS: [u8; 256] = [
+    0,
+    1, // X'01'
+    2, // X'02'
+    3, // X'03'
+    0,
+    0,
+    0,
+    4, // X'07'
+    0,
+    0,
+    0,
+    0,
+    0,
+    0,
+    0,
+    0,
+    0,
+    0,
+    0,
+    0,
+    0,
+    0,
+    0,
+    0,
+    0,
+    0,
+    0,
+    0,
+    0,
+    0,
+    0,
+    0,
+    0,
+    0,
+    0,
+    5, // X'23'
+    6, // X'24'
+    0,
+    0,
+    0,
+    0,
+    0,
+    0,
+    0,
+    0,
+    0,
+    0,
+    0,
+    0,
+    0,
+    0,
+    0,
+    0,
+    0,
+    0,
+    0,
+    0,
+    0,
+    0,
+    0,
+    0,
+    0,
+    0,
+    0,
+    7, // X'40'
+    0,
+    0,
+    0,
+    0,
+    0,
+    0,
+    8, // X'47'
+    9, // X'48'
+    0,
+    0,
+    0,
+    0,
+    0,
+    0,
+    0,
+    0,
+    0,
+    0,
+    0,
+    0,
+    0,
+    0,
+    0,
+    0,
+    0,
+    0,
+    0,
+    0,
+    0,
+    0,
+    0,
+    0,
+    0,
+    0,
+    0,
+    0,
+    0,
+    0,
+    0,
+    0,
+    0,
+    0,
+    0,
+    0,
+    0,
+    0,
+    0,
+    0,
+    0,
+    0,
+    0,
+    0,
+    0,
+    0,
+    0,
+    0,
+    0,
+    0,
+    0,
+    0,
+    0,
+    0,
+    0,
+    0,
+    1, // X'81'
+    2, // X'82'
+    3, // X'83'
+    0,
+    0,
+    0,
+    4, // X'87'
+    0,
+    0,
+    0,
+    0,
+    0,
+    0,
+    0,
+    0,
+    0,
+    0,
+    0,
+    0,
+    0,
+    0,
+    0,
+    0,
+    0,
+    0,
+    0,
+    0,
+    0,
+    0,
+    0,
+    0,
+    0,
+    0,
+    0,
+    5, // X'A3'
+    6, // X'A4'
+    0,
+    0,
+    0,
+    0,
+    0,
+    0,
+    0,
+    0,
+    0,
+    0,
+    0,
+    0,
+    0,
+    0,
+    0,
+    0,
+    0,
+    0,
+    0,
+    0,
+    0,
+    0,
+    0,
+    0,
+    0,
+    0,
+    0,
+    7, // X'C0'
+    0,
+    0,
+    0,
+    0,
+    0,
+    0,
+    8, // X'C7'
+    9, // X'C8'
+    0,
+    0,
+    0,
+    0,
+    0,
+    0,
+    0,
+    0,
+    0,
+    0,
+    0,
+    0,
+    0,
+    0,
+    0,
+    0,
+    0,
+    0,
+    0,
+    0,
+    0,
+    0,
+    0,
+    0,
+    0,
+    0,
+    0,
+    0,
+    0,
+    0,
+    0,
+    0,
+    0,
+    0,
+    0,
+    0,
+    0,
+    0,
+    0,
+    0,
+    0,
+    0,
+    0,
+    0,
+    0,
+    0,
+    0,
+    0,
+    0,
+    0,
+    0,
+    0,
+    0,
+    0,
+    0,
+];
+
+// The rules, row by row. Row 0 allows no field length, and so nothing.
+const RULES: [Rule; 10] = [
+    // no field type
+    Rule {
+        top: 0,
+        size1: NO_SIZE,
+        size2: NO_SIZE,
+        size3: NO_SIZE,
+        modes: 0,
+        biases: 0,
+        prefix: 0,
+    },
+    // X'01'
+    Rule {
+        top: 32768,
+        size1: NO_SIZE,
+        size2: NO_SIZE,
+        size3: NO_SIZE,
+        modes: 0,
+        biases: 0,
+        prefix: 0,
+    },
+    // X'02'
+    Rule {
+        top: 32768,
+        size1: NO_SIZE,
+        size2: NO_SIZE,
+        size3: NO_SIZE,
+        modes: 1,
+        biases: 0,
+        prefix: 2,
+    },
+    // X'03'
+    Rule {
+        top: 32768,
+        size1: NO_SIZE,
+        size2: NO_SIZE,
+        size3: NO_SIZE,
+        modes: 1,
+        biases: 0,
+        prefix: 3,
+    },
+    // X'07'
+    Rule {
+        top: 256,
+        size1: NO_SIZE,
+        size2: NO_SIZE,
+        size3: NO_SIZE,
+        modes: 1,
+        biases: 0,
+        prefix: 1,
+    },
+    // X'23'
+    Rule {
+        top: 0,
+        size1: 2,
+        size2: 4,
+        size3: 8,
+        modes: 0,
+        biases: 0,
+        prefix: 0,
+    },
+    // X'24'
+    Rule {
+        top: 0,
+        size1: 2,
+        size2: 4,
+        size3: 8,
+        modes: 0,
+        biases: 0,
+        prefix: 0,
+    },
+    // X'40'
+    Rule {
+        top: 0,
+        size1: 4,
+        size2: 8,
+        size3: 16,
+        modes: 0,
+        biases: 0,
+        prefix: 0,
+    },
+    // X'47'
+    Rule {
+        top: 0,
+        size1: 4,
+        size2: 8,
+        size3: NO_SIZE,
+        modes: 0,
+        biases: 1,
+        prefix: 0,
+    },
+    // X'48'
+    Rule {
+        top: 0,
+        size1: 4,
+        size2: 8,
+        size3: NO_SIZE,
+        modes: 0,
+        biases: 1,
+        prefix: 0,
+    },
+];
+
+// The row of a type code, 0 for none.
+pub fn row_of(code: u8) -> u8
+    ensures { λ r. ⌜ r ≡ rowOf (typeOf code) ⌝ }
+{
+    ROWS[code as usize]
+}
+
+// The rule in a row; past the table, that of row 0.
+pub fn rule_at(row: u8) -> Rule
+    ensures { λ r. ⌜ r ≡ ruleAt row ⌝ }
+{
+    if row < 10 {
+        return RULES[row as usize];
+    }
+    RULES[0]
+}
+
+// Whether a type code is a nullable form.
+pub fn is_nullable(code: u8) -> bool
+    ensures { λ r. ⌜ r ≡ nullable code ⌝ }
+{
+    if code < 128 {
+        return false;
+    }
+    true
+}
+
+// The number that a byte is.
+pub fn wide(a: u8) -> usize
+    ensures { λ r. ⌜ (r ≡ a) × (r < 256) ⌝ }
+{
+    a as usize
+}
+
+// The number that two bytes are, most significant first.
+pub fn pair(a: u8, b: u8) -> usize
+    ensures { λ r. ⌜ (r ≡ big (a ∷ b ∷ [])) × (r < 65536) ⌝ }
+{
+    (a as usize) * 256 + (b as usize)
+}
+
+// Whether the bytes that hold no type parameter are zero.
+fn unused_zero(ps: &[u8]) -> bool
+    requires { ⌜ length (now ps) ≡ 8 ⌝ }
+    ensures { λ r. ⌜ r ≡ unusedZero (now (ps .entry)) ⌝ }
+{
+    if ps[0] != 0 {
+        return false;
+    }
+    if ps[1] != 0 {
+        return false;
+    }
+    if ps[4] != 0 {
+        return false;
+    }
+    true
+}
+
+// Whether a rule allows a bias indicator, a mode and a field length.
+fn rule_allows(rule: Rule, bias: usize, mode: u8, f: usize) -> bool
+    ensures { λ r. ⌜ r ≡ ruleAllows rule bias mode f ⌝ }
+{
+    if rule.biases < bias {
+        return false;
+    }
+    if rule.modes < mode {
+        return false;
+    }
+    if f < rule.top {
+        return true;
+    }
+    if f == rule.size1 {
+        return true;
+    }
+    if f == rule.size2 {
+        return true;
+    }
+    if f == rule.size3 {
+        return true;
+    }
+    false
+}
+
+// Whether an SDA's type parameters are eight bytes that its field type allows.
+pub fn parameters_ok(code: u8, ps: &[u8]) -> bool
+    ensures { λ r. ⌜ r ≡ goodEight code (now (ps .entry)) ⌝ }
+{
+    if ps.len() != 8 {
+        return false;
+    }
+    if unused_zero(ps) {
+        let rule = rule_at(row_of(code));
+        return rule_allows(rule, pair(ps[2], ps[3]), ps[5], pair(ps[6], ps[7]));
+    }
+    false
+}

@@ -1,0 +1,21 @@
+-- The code's struct as what it stands for in the papers' definitions, and two steps of these.
+use Prim.Native.Nat.{ℕ, _-_}
+use mathlib.Core.Bool.{false}
+use lib.Dec.{leb}
+use Rattle.fdoca.specs.Basics.{if_then_else_}
+use Rattle.fdoca.specs.Item.{refused, item, Space, isOver, measureBody}
+use Rattle.fdoca.specs.Item as defined
+use Rattle.items.specs.declared.Measured.{Measured}
+
+-- A refusal has its number, no null mark and zeros; a measured item has the number 0.
+unfoldable pub answer : defined.Measured → Measured
+answer (refused n) = record { number = n; null = false; prefix = 0; value = 0; padding = 0 }
+answer (item z p v r) = record { number = 0; null = z; prefix = p; value = v; padding = r }
+
+-- Of `size` bytes that are sent behind a length field of w bytes, the first L are the value.
+unfoldable pub measureSent : (w L size left : ℕ) → defined.Measured
+measureSent w L size left = if leb size left then item false w L (size - L) else refused 13
+
+-- What follows a length field that is not negative.
+unfoldable pub measureRanged : Space → (w L left : ℕ) → defined.Measured
+measureRanged sp w L left = if isOver sp L then refused 14 else measureBody sp w L left

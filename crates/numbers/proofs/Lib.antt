@@ -1,0 +1,4 @@
+pub mod Big
+pub mod Digits
+pub mod Sign
+pub mod Whole

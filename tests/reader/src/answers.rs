@@ -1,0 +1,84 @@
+//! Everything that the calls answer for one case.
+
+use crate::generate::Case;
+use crate::{check, lend, list, state, whole_number, Refusal, State, Whole};
+
+#[derive(Clone, Debug, PartialEq, Eq)]
+pub struct Answers {
+    pub check: Result<u32, Refusal>,
+    pub list: Result<(), Refusal>,
+    pub list_after: Vec<u32>,
+    pub state: Result<State, Refusal>,
+    pub lent: Vec<u8>,
+    pub whole: Result<Whole, Refusal>,
+}
+
+impl Answers {
+    pub fn of(case: &Case) -> Answers {
+        let (descriptor, data) = (&case.descriptor, &case.data);
+        let mut list_after = case.list_before.clone();
+        Answers {
+            check: check(descriptor),
+            list: list(descriptor, data, &mut list_after),
+            list_after,
+            state: state(descriptor, data, case.item),
+            lent: lend(descriptor, data, case.item).to_vec(),
+            whole: whole_number(descriptor, data, case.item),
+        }
+    }
+
+    /// The numbers of check, list, state and whole-number read, 0 where accepted.
+    pub fn numbers(&self) -> [u32; 4] {
+        [
+            number(&self.check),
+            number(&self.list),
+            number(&self.state),
+            number(&self.whole),
+        ]
+    }
+
+    /// All answers as one list of numbers. Each call gives its number and place,
+    /// then its results, which are zeros on a refusal; the list and the lent
+    /// bytes have their length before them; a whole number is its null mark,
+    /// its sign and its magnitude, which is `-value - 1` for a negative value.
+    pub fn flat(&self) -> Vec<u64> {
+        let mut flat = Vec::new();
+        flat.extend(call(&self.check, |&count| [count.into()]));
+        flat.extend(call(&self.list, |()| []));
+        flat.push(self.list_after.len() as u64);
+        flat.extend(self.list_after.iter().map(|&entry| u64::from(entry)));
+        flat.extend(call(&self.state, |state| {
+            [
+                state.is_null.into(),
+                state.type_code.into(),
+                state.value_length.into(),
+            ]
+        }));
+        flat.push(self.lent.len() as u64);
+        flat.extend(self.lent.iter().map(|&byte| u64::from(byte)));
+        flat.extend(call(&self.whole, |whole| {
+            let is_negative = whole.value < 0;
+            let magnitude = if is_negative {
+                !whole.value
+            } else {
+                whole.value
+            };
+            [whole.is_null.into(), is_negative.into(), magnitude as u64]
+        }));
+        flat
+    }
+}
+
+fn number<T>(answer: &Result<T, Refusal>) -> u32 {
+    answer.as_ref().map_or_else(|refusal| refusal.number, |_| 0)
+}
+
+fn call<T, const N: usize>(
+    answer: &Result<T, Refusal>,
+    results: impl FnOnce(&T) -> [u64; N],
+) -> Vec<u64> {
+    match answer {
+        Ok(accepted) => [&[0, 0][..], &results(accepted)].concat(),
+        Err(refusal) => [&[refusal.number.into(), refusal.place.into()][..], &[0; N]].concat(),
+    }
+}

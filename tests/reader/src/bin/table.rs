@@ -1,0 +1,191 @@
+//! Prints random cases and the reader's answers as a table for a proof checker.
+//!
+//! `table SEED COUNT` writes COUNT cases to standard output, in chunks of 50, and
+//! one line to standard error: how often each number was met. The exit status is
+//! 1 unless every number from 0 to 18 was met at least ten times.
+
+use std::env;
+use std::io::{self, BufWriter, Write};
+use std::process::ExitCode;
+
+use reader::generate::{Case, Generator};
+use reader::Answers;
+
+const CHUNK: usize = 50;
+const SHORTEST_RUN: usize = 16;
+const FEWEST: u64 = 10;
+
+fn main() -> ExitCode {
+    let arguments: Vec<u64> = env::args()
+        .skip(1)
+        .filter_map(|argument| argument.parse().ok())
+        .collect();
+    let &[seed, count] = &arguments[..] else {
+        eprintln!("usage: table SEED COUNT");
+        return ExitCode::from(2);
+    };
+    match print(seed, count as usize) {
+        Ok(met) => {
+            eprintln!("{}", counts_line(&met));
+            ExitCode::from(u8::from(met.iter().any(|&times| times < FEWEST)))
+        }
+        Err(error) => {
+            eprintln!("{error}");
+            ExitCode::from(2)
+        }
+    }
+}
+
+/// Prints the table and tells how often each number was met.
+fn print(seed: u64, count: usize) -> io::Result<[u64; 19]> {
+    let mut out = BufWriter::new(io::stdout().lock());
+    let mut met = [0; 19];
+    let mut cases = Generator::new(seed).take(count);
+    for chunk in 0..count.div_ceil(CHUNK) {
+        writeln!(out, "cases{chunk} : List Case")?;
+        writeln!(out, "unfolding bytes")?;
+        writeln!(out, "cases{chunk} =")?;
+        for (row, case) in cases.by_ref().take(CHUNK).enumerate() {
+            let answers = Answers::of(&case);
+            for number in answers.numbers() {
+                met[number as usize] += 1;
+            }
+            let link = if row == 0 { "" } else { "∷ " };
+            writeln!(out, "    {link}{}", case_text(&case, &answers))?;
+        }
+        writeln!(out, "    ∷ []\n")?;
+        writeln!(
+            out,
+            "agree{chunk} : map answered cases{chunk} ≡ map expected cases{chunk}"
+        )?;
+        writeln!(out, "unfolding cases{chunk} answered everything")?;
+        writeln!(out, "agree{chunk} = refl\n")?;
+    }
+    out.flush()?;
+    Ok(met)
+}
+
+fn counts_line(met: &[u64; 19]) -> String {
+    let counts: Vec<String> = met
+        .iter()
+        .enumerate()
+        .map(|(number, times)| format!("{number}:{times}"))
+        .collect();
+    counts.join(" ")
+}
+
+fn case_text(case: &Case, answers: &Answers) -> String {
+    format!(
+        "case ({}) ({}) ({}) {} ({})",
+        byte_string(&case.descriptor),
+        byte_string(&case.data),
+        number_list(&case.list_before),
+        case.item,
+        cons_list(&answers.flat())
+    )
+}
+
+/// Splits a list into runs of equal entries and the stretches between them.
+fn segments<T: PartialEq>(list: &[T]) -> Vec<&[T]> {
+    let mut segments = Vec::new();
+    let mut rest = list;
+    let mut plain = 0;
+    while plain < rest.len() {
+        let run = rest[plain..]
+            .iter()
+            .take_while(|&entry| *entry == rest[plain])
+            .count();
+        if run < SHORTEST_RUN {
+            plain += run;
+            continue;
+        }
+        segments.extend([&rest[..plain], &rest[plain..plain + run]]);
+        rest = &rest[plain + run..];
+        plain = 0;
+    }
+    segments.push(rest);
+    segments.retain(|segment| !segment.is_empty());
+    segments
+}
+
+fn is_run<T: PartialEq>(segment: &[T]) -> bool {
+    segment.len() >= SHORTEST_RUN && segment.iter().all(|entry| *entry == segment[0])
+}
+
+fn joined(parts: Vec<String>) -> String {
+    if parts.is_empty() {
+        "[]".to_string()
+    } else {
+        parts.join(" ++ ")
+    }
+}
+
+fn byte_string(bytes: &[u8]) -> String {
+    let part = |segment: &&[u8]| {
+        if is_run(segment) {
+            return format!("replicate {} {}", segment.len(), segment[0]);
+        }
+        let hex: String = segment.iter().map(|byte| format!("{byte:02X}")).collect();
+        format!("bytes {} 0x{hex}", segment.len())
+    };
+    joined(segments(bytes).iter().map(part).collect())
+}
+
+fn number_list(list: &[u32]) -> String {
+    let segments = segments(list);
+    if let [plain] = segments[..] {
+        if !is_run(plain) {
+            return cons_list(plain);
+        }
+    }
+    let part = |segment: &&[u32]| {
+        if is_run(segment) {
+            return format!("replicate {} {}", segment.len(), segment[0]);
+        }
+        format!("({})", cons_list(segment))
+    };
+    joined(segments.iter().map(part).collect())
+}
+
+fn cons_list<T: ToString>(list: &[T]) -> String {
+    list.iter()
+        .map(|entry| entry.to_string() + " ∷ ")
+        .chain(["[]".to_string()])
+        .collect()
+}
+
+#[cfg(test)]
+mod tests {
+    use super::*;
+
+    #[test]
+    fn byte_strings_are_printed_in_segments() {
+        let long = [&[1, 0xAB][..], &[0; 16], &[0xC; 15], &[7; 20]].concat();
+        let hex = "0C".repeat(15);
+        let text =
+            format!("bytes 2 0x01AB ++ replicate 16 0 ++ bytes 15 0x{hex} ++ replicate 20 7");
+        let rows: [(&[u8], &str); 4] = [
+            (&[], "[]"),
+            (&[0, 5], "bytes 2 0x0005"),
+            (&[200; 16], "replicate 16 200"),
+            (&long, &text),
+        ];
+        for (bytes, text) in rows {
+            assert_eq!(byte_string(bytes), text);
+        }
+    }
+
+    #[test]
+    fn number_lists_are_printed_in_segments() {
+        let long = [&[1, 2][..], &[9; 16], &[3]].concat();
+        let rows: [(&[u32], &str); 4] = [
+            (&[], "[]"),
+            (&[4, 5], "4 ∷ 5 ∷ []"),
+            (&[6; 17], "replicate 17 6"),
+            (&long, "(1 ∷ 2 ∷ []) ++ replicate 16 9 ++ (3 ∷ [])"),
+        ];
+        for (list, text) in rows {
+            assert_eq!(number_list(list), text);
+        }
+    }
+}

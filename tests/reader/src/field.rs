@@ -1,0 +1,131 @@
+//! Field types, and the type parameters that each of them allows.
+
+/// How an item is laid out after any null indicator.
+#[derive(Clone, Copy, Debug, PartialEq, Eq)]
+pub(crate) enum Form {
+    /// F bytes.
+    Fixed,
+    /// A two-byte signed length, then bytes.
+    Variable,
+    /// Bytes up to a zero byte.
+    NullTerminated,
+    /// A one-byte unsigned length, then bytes.
+    Short,
+}
+
+enum FieldLengths {
+    UpTo(u16),
+    OneOf(&'static [u16]),
+}
+
+struct Rule {
+    type_code: u8,
+    form: Form,
+    lengths: FieldLengths,
+    highest_mode: u8,
+    highest_bias: u16,
+}
+
+const fn rule(type_code: u8, form: Form, lengths: FieldLengths) -> Rule {
+    Rule {
+        type_code,
+        form,
+        lengths,
+        highest_mode: if matches!(form, Form::Fixed) { 0 } else { 1 },
+        highest_bias: if matches!(type_code, 0x47 | 0x48) {
+            1
+        } else {
+            0
+        },
+    }
+}
+
+const RULES: [Rule; 9] = [
+    rule(0x01, Form::Fixed, FieldLengths::UpTo(32_767)),
+    rule(0x02, Form::Variable, FieldLengths::UpTo(32_767)),
+    rule(0x03, Form::NullTerminated, FieldLengths::UpTo(32_767)),
+    rule(0x07, Form::Short, FieldLengths::UpTo(255)),
+    rule(0x23, Form::Fixed, FieldLengths::OneOf(&[2, 4, 8])),
+    rule(0x24, Form::Fixed, FieldLengths::OneOf(&[2, 4, 8])),
+    rule(0x40, Form::Fixed, FieldLengths::OneOf(&[4, 8, 16])),
+    rule(0x47, Form::Fixed, FieldLengths::OneOf(&[4, 8])),
+    rule(0x48, Form::Fixed, FieldLengths::OneOf(&[4, 8])),
+];
+
+/// Added to a type code, this makes its nullable form.
+pub(crate) const NULLABLE: u8 = 0x80;
+
+impl Rule {
+    fn allows(&self, parameters: &[u8; 8]) -> bool {
+        let [reserved_0, reserved_1, bias @ .., reserved_4, mode, length_high, length_low] =
+            *parameters;
+        let length = u16::from_be_bytes([length_high, length_low]);
+        [reserved_0, reserved_1, reserved_4] == [0, 0, 0]
+            && u16::from_be_bytes(bias) <= self.highest_bias
+            && mode <= self.highest_mode
+            && match self.lengths {
+                FieldLengths::UpTo(highest) => length <= highest,
+                FieldLengths::OneOf(lengths) => lengths.contains(&length),
+            }
+    }
+}
+
+/// A field of the unfolding: an SDA's id, type code and the parameters that hold for it.
+#[derive(Clone, Copy, Debug, PartialEq, Eq)]
+pub struct Field {
+    id: u8,
+    type_code: u8,
+    parameters: [u8; 8],
+    form: Form,
+}
+
+impl Field {
+    /// The field of an SDA, unless its id is 0, its type has no rule or the
+    /// rule does not allow its parameters.
+    pub(crate) fn new(id: u8, type_code: u8, parameters: [u8; 8]) -> Option<Field> {
+        let plain = type_code & !NULLABLE;
+        let rule = RULES.iter().find(|rule| rule.type_code == plain)?;
+        (id != 0 && rule.allows(&parameters)).then_some(Field {
+            id,
+            type_code,
+            parameters,
+            form: rule.form,
+        })
+    }
+
+    pub fn id(&self) -> u8 {
+        self.id
+    }
+
+    pub fn type_code(&self) -> u8 {
+        self.type_code
+    }
+
+    /// The type code without the nullable bit.
+    pub fn plain_type(&self) -> u8 {
+        self.type_code & !NULLABLE
+    }
+
+    pub fn is_nullable(&self) -> bool {
+        self.type_code & NULLABLE != 0
+    }
+
+    /// The eight type parameters as the SDA holds them.
+    pub fn parameters(&self) -> [u8; 8] {
+        self.parameters
+    }
+
+    /// Mode 0 sends all of the reserved space, mode 1 only what the value needs.
+    pub fn mode(&self) -> u8 {
+        self.parameters[5]
+    }
+
+    /// The field length F.
+    pub fn field_length(&self) -> usize {
+        u16::from_be_bytes([self.parameters[6], self.parameters[7]]).into()
+    }
+
+    pub(crate) fn form(&self) -> Form {
+        self.form
+    }
+}

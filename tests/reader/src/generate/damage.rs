@@ -1,0 +1,164 @@
+//! Damage to the triplets of a valid descriptor.
+
+use super::random::Random;
+use super::structured::isd;
+use crate::descriptor::{CPT, RLO, SDA};
+
+/// Damages a descriptor once or twice; the result may still be valid.
+pub(super) fn damaged(random: &mut Random, mut triplets: Vec<Vec<u8>>) -> Vec<u8> {
+    for _ in 0..random.pick(&[1, 1, 1, 2]) {
+        damage(random, &mut triplets);
+    }
+    let mut descriptor = triplets.concat();
+    match random.below(12) {
+        0 => descriptor.truncate(random.below(descriptor.len() + 1)),
+        1 => descriptor.extend(random.bytes(2)),
+        2 if !descriptor.is_empty() => {
+            let offset = random.below(descriptor.len());
+            descriptor[offset] = random.byte();
+        }
+        _ => {}
+    }
+    descriptor
+}
+
+fn damage(random: &mut Random, triplets: &mut Vec<Vec<u8>>) {
+    match random.below(12) {
+        0 | 1 => header(random, triplets),
+        2 => parameters(random, triplets),
+        3 => extents(random, triplets),
+        4..=7 => group(random, triplets),
+        8 => stray(random, triplets),
+        _ => order(random, triplets),
+    }
+}
+
+/// Changes a LENGTH, a construct type or an id.
+fn header(random: &mut Random, triplets: &mut [Vec<u8>]) {
+    let ids = ids(triplets);
+    let Some(triplet) = any(random, triplets, is_whole) else {
+        return;
+    };
+    match random.below(3) {
+        0 if random.one_in(2) => triplet[0] = random.pick(&[0, 1, 2, 3, 255]),
+        0 => triplet[0] = triplet[0].wrapping_add(random.pick(&[1, 2, 3, 0xFF, 0xFD])),
+        1 => triplet[1] = random.pick(&[0x70, 0x71, 0x7E, 0x7F, 0x75, 0x76, 0x78, 0x72, 0]),
+        _ if ids.is_empty() || random.one_in(3) => triplet[2] = random.pick(&[0, 1, 255]),
+        _ => triplet[2] = random.pick(&ids),
+    }
+}
+
+/// Changes an SDA's field type or one of its type parameters.
+fn parameters(random: &mut Random, triplets: &mut [Vec<u8>]) {
+    let Some(triplet) = any(random, triplets, is_sda) else {
+        return;
+    };
+    match random.below(4) {
+        0 => triplet[3] = random.byte(),
+        1 => triplet[3] = random.pick(&[0x00, 0x80, 0x10, 0x22, 0x30, 0x82, 0x03, 0xC0]),
+        2 => {
+            let lengths = [1_u16, 2, 3, 8, 16, 255, 256, 0x7FFF, 0x8000, 0xFFFF];
+            triplet[10..12].copy_from_slice(&random.pick(&lengths).to_be_bytes());
+        }
+        _ => triplet[random.between(4, 9)] = random.pick(&[1, 2, 0x80, 0xFF]),
+    }
+}
+
+/// Gives an SDA one extent more, or another one.
+fn extents(random: &mut Random, triplets: &mut [Vec<u8>]) {
+    let Some(triplet) = any(random, triplets, is_sda) else {
+        return;
+    };
+    let choices = [0_u16, 0, 1, 2, 0x1000, 0x1001, 0x7FFF, 0x8000, 0xFFFF];
+    let extent = random.pick(&choices).to_be_bytes();
+    let count = (triplet.len() - 12) / 2;
+    if count == 0 || random.one_in(3) {
+        triplet.extend(extent);
+        triplet[0] = triplet.len() as u8;
+    } else {
+        let offset = 12 + 2 * random.below(count);
+        triplet[offset..offset + 2].copy_from_slice(&extent);
+    }
+}
+
+/// Changes a group's reference, elements taken or repetition factor.
+fn group(random: &mut Random, triplets: &mut [Vec<u8>]) {
+    let ids = ids(triplets);
+    let Some(triplet) = any(random, triplets, has_groups) else {
+        return;
+    };
+    let offset = 3 * random.between(1, triplet.len() / 3 - 1);
+    match random.below(6) {
+        0 => triplet[offset] = random.pick(&[0, 1, 2, 255]),
+        1 | 2 if !ids.is_empty() => triplet[offset] = random.pick(&ids),
+        3 => triplet[offset + 1] = random.pick(&[1, 2, 9, 255]),
+        4 => triplet[offset + 2] = 0,
+        _ => triplet[offset + 2] = random.pick(&[2, 17, 64, 255]),
+    }
+}
+
+/// Puts an ISD or a CPT in any place, well made or not.
+fn stray(random: &mut Random, triplets: &mut Vec<Vec<u8>>) {
+    let ids = ids(triplets);
+    let mut triplet = isd(random);
+    if !ids.is_empty() && random.one_in(2) {
+        triplet = vec![6, CPT, 0, random.pick(&ids), 0, 1];
+    }
+    if random.one_in(3) {
+        let offset = random.between(2, triplet.len() - 1);
+        triplet[offset] = random.pick(&[0, 1, 2, 0xFF]);
+    }
+    let place = random.between(0, triplets.len());
+    triplets.insert(place, triplet);
+}
+
+/// Swaps two triplets, or puts a copy of one elsewhere, or leaves one out.
+fn order(random: &mut Random, triplets: &mut Vec<Vec<u8>>) {
+    if triplets.is_empty() {
+        return;
+    }
+    let (one, other) = (random.below(triplets.len()), random.below(triplets.len()));
+    match random.below(3) {
+        0 => triplets.swap(one, other),
+        1 => triplets.insert(one, triplets[other].clone()),
+        _ => {
+            triplets.remove(one);
+        }
+    }
+}
+
+/// Any of the triplets that fit.
+fn any<'t>(
+    random: &mut Random,
+    triplets: &'t mut [Vec<u8>],
+    fits: fn(&[u8]) -> bool,
+) -> Option<&'t mut Vec<u8>> {
+    let fitting: Vec<usize> = (0..triplets.len())
+        .filter(|&place| fits(&triplets[place]))
+        .collect();
+    if fitting.is_empty() {
+        return None;
+    }
+    triplets.get_mut(random.pick(&fitting))
+}
+
+/// Whether LENGTH is still that of the triplet.
+fn is_whole(triplet: &[u8]) -> bool {
+    usize::from(triplet[0]) == triplet.len()
+}
+
+fn is_sda(triplet: &[u8]) -> bool {
+    is_whole(triplet) && triplet[1] == SDA && matches!(triplet.len(), 12..=18)
+}
+
+fn has_groups(triplet: &[u8]) -> bool {
+    is_whole(triplet) && matches!(triplet[1], RLO | CPT) && triplet.len() >= 6
+}
+
+fn ids(triplets: &[Vec<u8>]) -> Vec<u8> {
+    triplets
+        .iter()
+        .filter(|triplet| matches!(triplet[1], SDA | RLO))
+        .map(|triplet| triplet[2])
+        .collect()
+}

@@ -1,0 +1,142 @@
+//! Data blocks that fit an unfolding, or fail to in one item.
+
+use super::random::Random;
+use crate::field::{Field, Form};
+
+/// Data that fits the fields.
+pub(super) fn data(random: &mut Random, fields: &[Field]) -> Vec<u8> {
+    fields
+        .iter()
+        .flat_map(|field| item(random, field))
+        .collect()
+}
+
+/// Data that fits all fields but one, whose item has a bad count or no end.
+/// None if no field allows that.
+pub(super) fn spoiled_data(random: &mut Random, fields: &[Field]) -> Option<Vec<u8>> {
+    let can_spoil: Vec<usize> = (0..fields.len())
+        .filter(|&item| match fields[item].form() {
+            Form::Fixed => false,
+            Form::Variable => true,
+            Form::NullTerminated | Form::Short => fields[item].field_length() > 0,
+        })
+        .collect();
+    if can_spoil.is_empty() {
+        return None;
+    }
+    let spoiled = random.pick(&can_spoil);
+    let mut data = data(random, &fields[..spoiled]);
+    if fields[spoiled].is_nullable() {
+        data.push(indicator(random));
+    }
+    data.extend(spoiled_value(random, &fields[spoiled]));
+    data.extend(self::data(random, &fields[spoiled + 1..]));
+    Some(data)
+}
+
+/// A null indicator that says that a value follows; its low bits are free.
+fn indicator(random: &mut Random) -> u8 {
+    random.pick(&[0, 0, 1, 0x7F, 0x40])
+}
+
+fn item(random: &mut Random, field: &Field) -> Vec<u8> {
+    if !field.is_nullable() {
+        return value(random, field);
+    }
+    if random.one_in(3) {
+        return vec![random.pick(&[0x80, 0x81, 0xFF, 0xC0])];
+    }
+    let mut item = vec![indicator(random)];
+    item.extend(value(random, field));
+    item
+}
+
+fn value(random: &mut Random, field: &Field) -> Vec<u8> {
+    match field.form() {
+        Form::Fixed => fixed(random, field.field_length()),
+        Form::Variable | Form::Short => counted(random, field),
+        Form::NullTerminated => null_terminated(random, field),
+    }
+}
+
+/// Bytes of any kind, or a whole number at the edge of its range in either order.
+fn fixed(random: &mut Random, count: usize) -> Vec<u8> {
+    let mut bytes = match random.below(4) {
+        0 => vec![random.pick(&[0, 0xFF]); count],
+        _ => random.bytes(count),
+    };
+    if count > 0 && random.one_in(3) {
+        let end = random.pick(&[0, count - 1]);
+        bytes[end] = random.pick(&[0x80, 0x7F, 0xFE, 0x01]);
+    }
+    bytes
+}
+
+/// How many bytes a value of the field has, often as few or as many as allowed.
+fn value_length(random: &mut Random, field: &Field) -> usize {
+    let most = match field.field_length() {
+        0 => 5,
+        field_length => field_length,
+    };
+    match random.below(4) {
+        0 => 0,
+        1 => most,
+        _ => random.between(0, most),
+    }
+}
+
+fn length_field(field: &Field, count: usize) -> Vec<u8> {
+    match field.form() {
+        Form::Short => vec![count as u8],
+        _ => (count as u16).to_be_bytes().to_vec(),
+    }
+}
+
+fn counted(random: &mut Random, field: &Field) -> Vec<u8> {
+    let count = value_length(random, field);
+    let body = match field.mode() {
+        0 => field.field_length().max(count),
+        _ => count,
+    };
+    let mut bytes = length_field(field, count);
+    bytes.extend(random.bytes(body));
+    bytes
+}
+
+fn non_zero(random: &mut Random, count: usize) -> Vec<u8> {
+    (0..count).map(|_| random.byte().max(1)).collect()
+}
+
+fn null_terminated(random: &mut Random, field: &Field) -> Vec<u8> {
+    let count = value_length(random, field);
+    let mut bytes = non_zero(random, count);
+    bytes.push(0);
+    if field.mode() == 0 {
+        let reserved = field.field_length().saturating_sub(count);
+        bytes.extend(random.bytes(reserved));
+    }
+    bytes
+}
+
+/// The item of a field that can be spoiled, without its null indicator.
+fn spoiled_value(random: &mut Random, field: &Field) -> Vec<u8> {
+    let field_length = field.field_length();
+    let highest = match field.form() {
+        Form::NullTerminated => return non_zero(random, field_length + 1),
+        Form::Short => 0xFF,
+        _ => 0xFFFF,
+    };
+    let lowest = match field_length {
+        0 => 0x8000,
+        _ => (field_length + 1).min(highest),
+    };
+    let count = match random.below(3) {
+        0 => lowest,
+        1 => highest,
+        _ => random.between(lowest, highest),
+    };
+    let mut bytes = length_field(field, count);
+    let body = random.below(field_length + 3);
+    bytes.extend(random.bytes(body));
+    bytes
+}

@@ -1,0 +1,192 @@
+//! Valid descriptors, made triplet by triplet.
+
+use super::random::Random;
+use crate::descriptor::{CPT, ISD, RLO, SDA};
+
+/// The plain field types; whole numbers stand twice so that they come more often.
+const TYPES: [u8; 11] = [
+    0x01, 0x02, 0x03, 0x07, 0x23, 0x24, 0x23, 0x24, 0x40, 0x47, 0x48,
+];
+
+/// The triplets of a valid descriptor of at most `items` items.
+pub(super) fn triplets(random: &mut Random, items: usize) -> Vec<Vec<u8>> {
+    let mut draft = Draft {
+        random,
+        items,
+        triplets: Vec::new(),
+        described: Vec::new(),
+    };
+    draft.add_all();
+    draft.triplets
+}
+
+/// An SDA of any carried type, with parameters that its rule allows.
+pub(super) fn sda(random: &mut Random, id: u8, extents: &[u16]) -> Vec<u8> {
+    let plain = random.pick(&TYPES);
+    let type_code = plain + random.pick(&[0, 0x80]);
+    let parameters = parameters(random, plain);
+    sda_of(id, type_code, parameters, extents)
+}
+
+pub(super) fn sda_of(id: u8, type_code: u8, parameters: [u8; 8], extents: &[u16]) -> Vec<u8> {
+    let mut triplet = vec![12 + 2 * extents.len() as u8, SDA, id, type_code];
+    triplet.extend(parameters);
+    triplet.extend(extents.iter().flat_map(|extent| extent.to_be_bytes()));
+    triplet
+}
+
+/// Type parameters of field length F and the mode given.
+pub(super) fn plain_parameters(mode: u8, field_length: u16) -> [u8; 8] {
+    let [high, low] = field_length.to_be_bytes();
+    [0, 0, 0, 0, 0, mode, high, low]
+}
+
+fn parameters(random: &mut Random, plain: u8) -> [u8; 8] {
+    let is_large = random.one_in(12);
+    let (mode, field_length) = match plain {
+        0x01 => (0, random.below(if is_large { 24 } else { 6 })),
+        0x02 | 0x03 | 0x07 => (random.below(2), random.below(if is_large { 24 } else { 6 })),
+        0x40 => (0, random.pick(&[4, 8, 16])),
+        0x47 | 0x48 => (0, random.pick(&[4, 8])),
+        _ => (0, random.pick(&[2, 4, 8])),
+    };
+    let mut parameters = plain_parameters(mode as u8, field_length as u16);
+    if matches!(plain, 0x47 | 0x48) {
+        parameters[3] = random.below(2) as u8;
+    }
+    parameters
+}
+
+pub(super) fn isd(random: &mut Random) -> Vec<u8> {
+    let mut triplet = vec![5, ISD, 0, random.pick(&[0, 1]), 0];
+    if random.one_in(2) {
+        triplet[0] = 6;
+        triplet.push(1);
+    }
+    triplet
+}
+
+/// An RLO or CPT (id 0 for a CPT) with the groups given: reference, elements
+/// taken, repetition factor.
+pub(super) fn with_groups(construct: u8, id: u8, groups: &[[u8; 3]]) -> Vec<u8> {
+    let mut triplet = vec![3 + 3 * groups.len() as u8, construct, id];
+    triplet.extend(groups.concat());
+    triplet
+}
+
+/// An id described before, as far as a group needs to know it.
+#[derive(Clone, Copy)]
+struct Described {
+    id: u8,
+    count: usize,
+    /// The items of one element of an SDA's highest dimension, if it has extents.
+    per_element: Option<usize>,
+}
+
+struct Draft<'r> {
+    random: &'r mut Random,
+    items: usize,
+    triplets: Vec<Vec<u8>>,
+    described: Vec<Described>,
+}
+
+impl Draft<'_> {
+    fn add_all(&mut self) {
+        if self.random.one_in(4) {
+            let isd = isd(self.random);
+            self.triplets.push(isd);
+        }
+        for _ in 0..self.random.between(1, 5) {
+            if self.described.is_empty() || self.random.one_in(2) {
+                self.add_sda();
+            } else {
+                self.add_rlo();
+            }
+        }
+    }
+
+    fn add_sda(&mut self) {
+        let id = self.fresh_id();
+        let dimensions = self.random.pick(&[0, 0, 1, 1, 2, 3]);
+        let mut extents = Vec::new();
+        let mut left = self.items;
+        for _ in 0..dimensions {
+            let extent = self.random.between(1, left.min(7));
+            left /= extent;
+            extents.push(extent as u16);
+        }
+        let product = |extents: &[u16]| extents.iter().map(|&extent| usize::from(extent)).product();
+        let triplet = sda(self.random, id, &extents);
+        self.triplets.push(triplet);
+        self.described.push(Described {
+            id,
+            count: product(&extents),
+            per_element: extents.split_first().map(|(_, lower)| product(lower)),
+        });
+    }
+
+    fn add_rlo(&mut self) {
+        let id = self.fresh_id();
+        let mut groups = Vec::new();
+        let mut left = self.items;
+        for _ in 0..self.random.pick(&[1, 1, 2, 2, 3, 4, 9]) {
+            left -= self.add_group(&mut groups, left);
+        }
+        self.push_groups(id, &groups);
+        self.described.push(Described {
+            id,
+            count: self.items - left,
+            per_element: None,
+        });
+    }
+
+    /// Adds a group of at most `left` items, if there is one, and gives its count.
+    fn add_group(&mut self, groups: &mut Vec<[u8; 3]>, left: usize) -> usize {
+        let lower = self.random.pick(&self.described);
+        let (elements_taken, count) = match lower.per_element {
+            Some(count) if count <= left && self.random.one_in(2) => {
+                let most = (left / count).min(self.random.pick(&[4, 9, 255]));
+                let elements_taken = self.random.between(1, most);
+                (elements_taken, elements_taken * count)
+            }
+            _ => (0, lower.count),
+        };
+        if count > left {
+            return 0;
+        }
+        let most = (left / count).min(self.random.pick(&[1, 2, 4, 255]));
+        let factor = self.random.between(1, most);
+        groups.push([lower.id, elements_taken as u8, factor as u8]);
+        count * factor
+    }
+
+    /// Puts groups into an RLO and, now and then, a chain of CPTs.
+    fn push_groups(&mut self, id: u8, groups: &[[u8; 3]]) {
+        let mut rest = groups;
+        let (mut construct, mut id) = (RLO, id);
+        while !rest.is_empty() {
+            let taken = if self.random.one_in(2) {
+                rest.len()
+            } else {
+                self.random.between(1, rest.len())
+            };
+            self.triplets
+                .push(with_groups(construct, id, &rest[..taken]));
+            rest = &rest[taken..];
+            (construct, id) = (CPT, 0);
+        }
+    }
+
+    fn fresh_id(&mut self) -> u8 {
+        loop {
+            let id = match self.random.below(6) {
+                0 => 1,
+                1 => 255,
+                _ => self.random.between(1, 255) as u8,
+            };
+            if self.described.iter().all(|described| described.id != id) {
+                return id;
+            }
+        }
+    }
+}

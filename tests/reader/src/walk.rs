@@ -1,0 +1,141 @@
+//! The walk over a data block, and how it measures an item.
+
+use std::ops::Range;
+
+use crate::field::{Field, Form};
+use crate::refusal::*;
+
+pub const MAX_DATA: usize = 32_768;
+
+const NO_VALUE: u8 = 0x80;
+
+/// What the walk notes of an item.
+#[derive(Clone, Debug, PartialEq, Eq)]
+pub struct Note {
+    pub start: usize,
+    pub id: u8,
+    pub type_code: u8,
+    pub is_null: bool,
+    /// Where in the data the value lies; empty for a null.
+    pub value: Range<usize>,
+    /// All bytes of the item, null indicator and reserved space included.
+    pub length: usize,
+}
+
+/// Measures the item of each field in turn.
+pub fn walk(fields: &[Field], data: &[u8]) -> Result<Vec<Note>, Refusal> {
+    let mut notes = Vec::with_capacity(fields.len());
+    let mut start = 0;
+    for field in fields {
+        let item = measure(field, &data[start..]).map_err(|number| Refusal::at(number, start))?;
+        notes.push(Note {
+            start,
+            id: field.id(),
+            type_code: field.type_code(),
+            is_null: item.is_null,
+            value: start + item.value.start..start + item.value.end,
+            length: item.length,
+        });
+        start += item.length;
+    }
+    if start < data.len() {
+        return Err(Refusal::at(SURPLUS, start));
+    }
+    Ok(notes)
+}
+
+/// An item at the front of some bytes.
+struct Item {
+    is_null: bool,
+    value: Range<usize>,
+    length: usize,
+}
+
+impl Item {
+    fn of_value(value: Range<usize>, length: usize) -> Item {
+        Item {
+            is_null: false,
+            value,
+            length,
+        }
+    }
+}
+
+fn measure(field: &Field, bytes: &[u8]) -> Result<Item, u32> {
+    if !field.is_nullable() {
+        return measure_value(field, bytes);
+    }
+    let (indicator, rest) = bytes.split_first().ok_or(SHORT_DATA)?;
+    if indicator & NO_VALUE != 0 {
+        return Ok(Item {
+            is_null: true,
+            value: 1..1,
+            length: 1,
+        });
+    }
+    let item = measure_value(field, rest)?;
+    Ok(Item::of_value(
+        item.value.start + 1..item.value.end + 1,
+        item.length + 1,
+    ))
+}
+
+fn measure_value(field: &Field, bytes: &[u8]) -> Result<Item, u32> {
+    match field.form() {
+        Form::Fixed => {
+            let length = field.field_length();
+            let body = bytes.get(..length).ok_or(SHORT_DATA)?;
+            Ok(Item::of_value(0..body.len(), length))
+        }
+        Form::Variable => match *bytes {
+            [high, low, ..] => {
+                let count = i16::from_be_bytes([high, low]);
+                let count = usize::try_from(count).map_err(|_| BAD_COUNT)?;
+                measure_counted(field, bytes, 2, count)
+            }
+            _ => Err(SHORT_DATA),
+        },
+        Form::Short => match *bytes {
+            [count, ..] => measure_counted(field, bytes, 1, count.into()),
+            _ => Err(SHORT_DATA),
+        },
+        Form::NullTerminated => measure_null_terminated(field, bytes),
+    }
+}
+
+/// An item whose value has `count` bytes after a length field of `lead` bytes.
+fn measure_counted(field: &Field, bytes: &[u8], lead: usize, count: usize) -> Result<Item, u32> {
+    let field_length = field.field_length();
+    if field_length > 0 && count > field_length {
+        return Err(BAD_COUNT);
+    }
+    let body = if field_length > 0 && field.mode() == 0 {
+        field_length
+    } else {
+        count
+    };
+    let length = lead + body;
+    if bytes.len() < length {
+        return Err(SHORT_DATA);
+    }
+    Ok(Item::of_value(lead..lead + count, length))
+}
+
+fn measure_null_terminated(field: &Field, bytes: &[u8]) -> Result<Item, u32> {
+    let is_zero = |byte: &u8| *byte == 0;
+    if field.field_length() == 0 {
+        let end = bytes.iter().position(is_zero).ok_or(SHORT_DATA)?;
+        return Ok(Item::of_value(0..end, end + 1));
+    }
+    let space = field.field_length() + 1;
+    let sends_all = field.mode() == 0;
+    if sends_all && bytes.len() < space {
+        return Err(SHORT_DATA);
+    }
+    match bytes.iter().take(space).position(is_zero) {
+        Some(end) if sends_all => Ok(Item::of_value(0..end, space)),
+        Some(end) => Ok(Item::of_value(0..end, end + 1)),
+        None if bytes.len() < space => Err(SHORT_DATA),
+        None => Err(NO_END),
+    }
+}

@@ -1,0 +1,8 @@
+//! Tables of descriptors and blocks with what the reader has to say of them.
+
+mod edges;
+mod environment;
+mod examples;
+mod generator;
+mod limits;
+mod support;

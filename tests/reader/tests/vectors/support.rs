@@ -1,0 +1,174 @@
+//! What the tests share: tables of vectors, and the assertions that one row of a
+//! table stands for.
+
+use reader::*;
+
+/// The rows of a table whose columns are divided by bars; `#` begins a comment line.
+pub fn rows<const N: usize>(table: &str) -> Vec<[&str; N]> {
+    table
+        .lines()
+        .filter(|line| !line.trim().is_empty() && !line.starts_with('#'))
+        .map(|line| {
+            let columns: Vec<&str> = line.split('|').map(str::trim).collect();
+            columns.try_into().expect(line)
+        })
+        .collect()
+}
+
+/// The bytes of a hexadecimal string; blanks are passed over.
+pub fn hex(text: &str) -> Vec<u8> {
+    let digits: Vec<u32> = text
+        .split_whitespace()
+        .flat_map(str::chars)
+        .map(|digit| digit.to_digit(16).expect(text))
+        .collect();
+    digits
+        .chunks(2)
+        .map(|pair| (pair[0] << 4 | pair[1]) as u8)
+        .collect()
+}
+
+/// What a row says of item 0, or why the block is refused.
+#[derive(Clone, Debug)]
+pub enum Answer {
+    Refused(Refusal),
+    Null,
+    Length(usize),
+    Value(Vec<u8>),
+    Whole(i64),
+}
+
+impl Answer {
+    pub fn parse(text: &str) -> Answer {
+        let (word, rest) = text.split_once(' ').unwrap_or((text, ""));
+        match word {
+            "refused" => Answer::Refused(parse_refusal(rest)),
+            "null" => Answer::Null,
+            "length" => Answer::Length(rest.parse().expect(text)),
+            "value" => Answer::Value(hex(rest)),
+            "whole" => Answer::Whole(rest.parse().expect(text)),
+            _ => panic!("{text}"),
+        }
+    }
+
+    /// The answer when a null indicator comes before a plain item at place 0.
+    pub fn after_indicator(self) -> Answer {
+        match self {
+            Answer::Refused(refusal) if refusal.number == SURPLUS => Answer::Refused(Refusal {
+                place: refusal.place + 1,
+                ..refusal
+            }),
+            other => other,
+        }
+    }
+}
+
+/// A number and a place, one space apart.
+pub fn parse_refusal(text: &str) -> Refusal {
+    let (number, place) = text.split_once(' ').expect(text);
+    Refusal {
+        number: number.parse().expect(text),
+        place: place.parse().expect(text),
+    }
+}
+
+pub fn refused<T>(number: u32, place: u32) -> Result<T, Refusal> {
+    Err(Refusal { number, place })
+}
+
+/// The nullable form of a descriptor of one SDA, and its data behind an
+/// indicator. None if it is nullable already.
+pub fn with_indicator(descriptor: &[u8], data: &[u8], indicator: u8) -> Option<(Vec<u8>, Vec<u8>)> {
+    let mut nullable = descriptor.to_vec();
+    nullable[3] |= 0x80;
+    (nullable != descriptor).then(|| (nullable, [&[indicator], data].concat()))
+}
+
+/// An SDA without extents.
+pub fn sda(id: u8, type_code: u8, mode: u8, field_length: u16) -> Vec<u8> {
+    let [high, low] = field_length.to_be_bytes();
+    vec![12, 0x70, id, type_code, 0, 0, 0, 0, 0, mode, high, low]
+}
+
+/// An SDA of id B1 for every type code that has a rule, with each mode and with
+/// field lengths at the ends of their range.
+pub fn every_sda() -> Vec<Vec<u8>> {
+    let types: [(&[u8], u8, &[u16]); 6] = [
+        (&[0x01], 0, &[0, 1, 32_767]),
+        (&[0x02, 0x03], 1, &[0, 1, 32_767]),
+        (&[0x07], 1, &[0, 1, 255]),
+        (&[0x23, 0x24], 0, &[2, 4, 8]),
+        (&[0x40], 0, &[4, 8, 16]),
+        (&[0x47, 0x48], 0, &[4, 8]),
+    ];
+    let mut sdas = Vec::new();
+    for (type_codes, highest_mode, lengths) in types {
+        for &type_code in type_codes {
+            for mode in 0..=highest_mode {
+                for &length in lengths {
+                    sdas.push(sda(0xB1, type_code, mode, length));
+                    sdas.push(sda(0xB1, type_code | 0x80, mode, length));
+                }
+            }
+        }
+    }
+    sdas
+}
+
+/// Asserts what the check gives: `items` and a count, or `refused` with number
+/// and place.
+pub fn assert_check(name: &str, descriptor: &[u8], answer: &str) {
+    let expected = match answer.split_once(' ') {
+        Some(("items", count)) => Ok(count.parse().expect(answer)),
+        Some(("refused", refusal)) => Err(parse_refusal(refusal)),
+        _ => panic!("{answer}"),
+    };
+    assert_eq!(check(descriptor), expected, "{name}");
+}
+
+/// Asserts what all calls with data give for item 0 of a block whose descriptor
+/// begins with the item's SDA.
+pub fn assert_block(name: &str, descriptor: &[u8], data: &[u8], answer: &Answer) {
+    match answer {
+        Answer::Refused(refusal) => assert_refused(name, descriptor, data, *refusal),
+        _ => assert_item(name, descriptor, data, answer),
+    }
+}
+
+/// Asserts that every call with data refuses a block, whatever item is asked.
+fn assert_refused(name: &str, descriptor: &[u8], data: &[u8], refusal: Refusal) {
+    let count = check(descriptor).unwrap_or(0);
+    let before: Vec<u32> = (1000..1010 + 2 * count).collect();
+    let mut entries = before.clone();
+    assert_eq!(list(descriptor, data, &mut entries), Err(refusal), "{name}");
+    assert_eq!(entries, before, "{name}: the list");
+    for item in [0, 1, 70_000, u32::MAX] {
+        assert_eq!(state(descriptor, data, item), Err(refusal), "{name}");
+        assert_eq!(whole_number(descriptor, data, item), Err(refusal), "{name}");
+        assert!(lend(descriptor, data, item).is_empty(), "{name}");
+    }
+}
+
+fn assert_item(name: &str, descriptor: &[u8], data: &[u8], answer: &Answer) {
+    let state = state(descriptor, data, 0).expect(name);
+    let lent = lend(descriptor, data, 0);
+    assert_eq!(state.value_length as usize, lent.len(), "{name}");
+    assert_eq!(state.type_code, descriptor[3], "{name}");
+    assert_eq!(state.is_null, matches!(answer, Answer::Null), "{name}");
+    match answer {
+        Answer::Length(length) => assert_eq!(lent.len(), *length, "{name}"),
+        Answer::Value(value) => assert_eq!(lent, value, "{name}"),
+        Answer::Whole(value) => {
+            let whole = whole_number(descriptor, data, 0).expect(name);
+            assert_eq!((whole.is_null, whole.value), (false, *value), "{name}");
+        }
+        Answer::Null | Answer::Refused(_) => assert!(lent.is_empty(), "{name}"),
+    }
+    let mut entries = [u32::MAX; 5];
+    if check(descriptor) == Ok(1) {
+        let id = unfold(descriptor).expect(name)[0].id();
+        assert_eq!(list(descriptor, data, &mut entries), Ok(()), "{name}");
+        let expected = [1, data.len() as u32, 0, id.into(), u32::MAX];
+        assert_eq!(entries, expected, "{name}");
+    }
+}
