@@ -1,0 +1,105 @@
+-- What the check establishes of an accepted descriptor for writing its plan: tables with a position, a size and an entry for each described id,
+-- tied to the descriptor's bytes by equations, one for each id.
+use Prim.Native.Nat.{ℕ, zero, suc, _+_, _-_, _/_, _%_, _≤_, _<_}
+use mathlib.Core.Path.{_≡_}
+use mathlib.Core.Bool.{Bool, true, false}
+use mathlib.Core.List.{List, [], _∷_}
+use mathlib.Core.Option.{Option, none, some}
+use lib.Dec.{ltb, eqb}
+use lib.ListN.{length, getD, drop}
+use Rattle.fdoca.specs.Basics.{if_then_else_, product, lookup}
+use Rattle.fdoca.specs.Triplet.{triplets, Group}
+use Rattle.fdoca.specs.Item.{Field}
+use Rattle.fdoca.specs.Unfolding.{Described, array, row, fieldsReferred, closed, addFields, unfoldTriplets, start}
+use Rattle.plans.specs.Plan.{entryOf, Proper}
+
+-- All described ids of a descriptor, and the list that an id stands for.
+unfoldable pub describedBy : List ℕ → List (ℕ × Described)
+describedBy d = closed (unfoldTriplets start (triplets d))
+
+unfoldable pub listOf : List ℕ → (id : ℕ) → List Field
+listOf d id = fieldsReferred 0 (lookup id (describedBy d))
+
+-- The product of the lower extents, by which elements taken is multiplied; 0 without extents.
+abbrev pub lowerOf : List ℕ → ℕ
+lowerOf [] = 0
+lowerOf (x ∷ xs) = product xs
+
+-- The groups in the bytes behind an RLO's head, n of them the triplet's own. Three bytes at a time: a group while bytes of the triplet are left,
+-- and behind its end the head of a CPT, whose other bytes are groups again, or the end of the row.
+unfoldable pub groupsIn : ℕ → List ℕ → List Group
+groupsIn n [] = []
+groupsIn n (a ∷ []) = []
+groupsIn n (a ∷ b ∷ []) = []
+groupsIn n (a ∷ b ∷ c ∷ rest) =
+    if ltb 0 n then record { ref = a; taken = b; factor = c } ∷ groupsIn (n - 3) rest
+    else if eqb b 0x7F then groupsIn (a - 3) rest
+    else []
+
+-- The groups of the RLO at p, and of the CPTs right behind it.
+unfoldable pub groupsAt : List ℕ → (p : ℕ) → List Group
+groupsAt d p = groupsIn (getD d p 0 - 3) (drop (p + 3) d)
+
+-- The list that the RLO at p and its CPTs make.
+unfoldable pub rowList : List ℕ → (p : ℕ) → List Field
+rowList d p = addFields (describedBy d) [] (groupsAt d p)
+
+abbrev pub caseOf : Bool → Type 0 → Type 0 → Type 0
+caseOf true a b = a
+caseOf false a b = b
+
+-- The same bytes: each group has the property P, and the triplets are whole.
+unfoldable pub Groups : (Group → Type 0) → ℕ → List ℕ → Type 0
+Groups P n [] = n ≡ 0
+Groups P n (a ∷ []) = n ≡ 0
+Groups P n (a ∷ b ∷ []) = n ≡ 0
+Groups P n (a ∷ b ∷ c ∷ rest) =
+    caseOf (ltb 0 n)
+    (P (record { ref = a; taken = b; factor = c }) × Groups P (n - 3) rest)
+    (caseOf (eqb b 0x7F) (Groups P (a - 3) rest) (Unit {0}))
+
+-- Elements taken can stand for the highest extent: 0 over anything, another number over an SDA with extents.
+pub data Takes : ℕ → Described → Type 0 where
+  all : {D : Described} → Takes 0 D
+  some-of : {k x : ℕ} {f : Field} {xs : List ℕ} → Takes (suc k) (array f (x ∷ xs))
+
+-- A group of the row at p refers to an id whose triplet stands before p. `s` has the positions.
+pub record Refers (d s : List ℕ) (p : ℕ) (g : Group) : Type 0 where
+  pub to : Described
+  pub known : lookup (g .ref) (describedBy d) ≡ some to
+  pub back : getD s (g .ref) 0 < p
+  pub id-fits : g .ref < 256
+  pub repeats : 0 < g .factor
+  pub takes : Takes (g .taken) to
+
+-- The triplets at p, an RLO with its CPTs, make the list l.
+pub record RowAt (d s : List ℕ) (p : ℕ) (l : List Field) : Type 0 where
+  pub head : p + 3 ≤ length d
+  pub fields : l ≡ rowList d p
+  pub groups : Groups (Refers d s p) (getD d p 0 - 3) (drop (p + 3) d)
+
+-- What is kept of an id that an SDA describes: in `e` its plan entry, in `z` its count and, 65,536 times, the product of its lower extents.
+pub record SdaKept (z e : List ℕ) (i : ℕ) (f : Field) (xs : List ℕ) : Type 0 where
+  pub entry : getD e i 0 ≡ entryOf f
+  pub marked : 0 < getD e i 0
+  pub proper : Proper f
+  pub count : getD z i 0 % 65536 ≡ product xs
+  pub lower : getD z i 0 / 65536 ≡ lowerOf xs
+
+-- What is kept of an id that an RLO describes: the entry 0, and in `s` the position of a row that makes its list.
+pub record RowKept (d s e : List ℕ) (i : ℕ) (l : List Field) : Type 0 where
+  pub unmarked : getD e i 0 ≡ 0
+  pub made : RowAt d s (getD s i 0) l
+
+abbrev pub Kept : (d s z e : List ℕ) → ℕ → Described → Type 0
+Kept d s z e i (array f xs) = SdaKept z e i f xs
+Kept d s z e i (row l) = RowKept d s e i l
+
+pub record Tied (d s z e : List ℕ) : Type 0 where
+  pub small : length d ≤ 4096
+  pub each : (i : ℕ) (D : Described) → lookup i (describedBy d) ≡ some D → Kept d s z e i D
+
+-- An id is described.
+pub record Known (d : List ℕ) (id : ℕ) : Type 0 where
+  pub what : Described
+  pub known : lookup id (describedBy d) ≡ some what

@@ -1,0 +1,1 @@
+// The plan of an accepted descriptor: its unfolding, one number an item.
