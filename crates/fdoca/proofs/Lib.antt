@@ -10,6 +10,7 @@ pub mod Refusals
 pub mod Cover
 pub mod Stops
 pub mod Blocks
+pub mod Triplets
 pub mod Count
 pub mod Limits
 pub mod Calls
