@@ -42,7 +42,7 @@ entry-if : (b : Bool) (x y : Option U.Described) → (if b then entry? x else en
 entry-if true x y = refl
 entry-if false x y = refl
 
-lookup-entries : (i : ℕ) (ds : List (ℕ × U.Described)) → lookup i (entries ds) ≡ entry? (lookup i ds)
+pub lookup-entries : (i : ℕ) (ds : List (ℕ × U.Described)) → lookup i (entries ds) ≡ entry? (lookup i ds)
 lookup-entries i [] = refl
 lookup-entries i (d ∷ ds) = rw (lookup-entries i ds) (entry-if (eqb i (d .0)) (some (d .1)) (lookup i ds))
 

@@ -1,10 +1,10 @@
 -- What the check establishes of an accepted descriptor for writing its plan: tables with a position, a size and an entry for each described id,
 -- tied to the descriptor's bytes by equations, one for each id.
-use Prim.Native.Nat.{ℕ, zero, suc, _+_, _-_, _/_, _%_, _≤_, _<_}
+use Prim.Native.Nat.{ℕ, suc, _+_, _-_, _/_, _%_, _≤_, _<_}
 use mathlib.Core.Path.{_≡_}
 use mathlib.Core.Bool.{Bool, true, false}
 use mathlib.Core.List.{List, [], _∷_}
-use mathlib.Core.Option.{Option, none, some}
+use mathlib.Core.Option.{some}
 use lib.Dec.{ltb, eqb}
 use lib.ListN.{length, getD, drop}
 use Rattle.fdoca.specs.Basics.{if_then_else_, product, lookup}

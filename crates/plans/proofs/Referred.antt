@@ -1,0 +1,165 @@
+-- The list of one group, by what its id describes: `group` and `write` fill in the entry of an SDA, or go down to an RLO.
+-- Assumes nothing.
+use mathlib.Core.Path.{_≡_, refl, sym, ap, _∙_}
+use mathlib.Core.List.{List, _∷_, _++_, map, map-append}
+use mathlib.Core.Option.{some}
+use Prim.Native.Nat.{ℕ, zero, suc, _+_, _-_, _*_, _^_, _≤_, _<_}
+use native.Mathlib.Omega.{arith}
+use borrow.Author.Tests.{ne-eqb}
+use mir.Syntax.{w64}
+use mir.Val.{Fits}
+use lib.ListN.{length, getD, take, drop, replicate, length-append, length-replicate, length-map}
+use lib.Seq.{sets, length-sets}
+use Rattle.fdoca.specs.Basics.{lookup, repeat}
+use Rattle.fdoca.specs.Item.{Field}
+use Rattle.fdoca.specs.Unfolding.{Described, array, row, fieldsTaken, fieldsReferred}
+use Rattle.plans.specs.Plan.{entryOf}
+use Rattle.plans.specs.Tied.{describedBy, listOf, rowList, Takes, all, some-of, Refers, RowAt, SdaKept, Kept, Tied, Known}
+use Rattle.plans.specs.Writing.{groupAt, groupList, countTaken}
+use Rattle.plans.proofs.Lists.{length-repeat, repeat-first, repeat-replicate, sets-append, read-back, map-repeat, map-replicate}
+
+sda-once : {z e : List ℕ} {i : ℕ} (t : ℕ) (f : Field) (xs : List ℕ) → SdaKept z e i f xs → Takes t (array f xs)
+    → fieldsTaken t (array f xs) ≡ replicate (countTaken (getD z i 0) t) f
+unfolding countTaken
+sda-once zero f xs k all = ap (λ (n : ℕ). replicate n f) (sym (k .count))
+sda-once (suc t) f (x ∷ xs) k some-of = simp (ne-eqb (suc t) 0 (λ h. omega arith)) (ap (λ (n : ℕ). replicate (suc t * n) f) (sym (k .lower)))
+
+pub row-once : (t : ℕ) (l : List Field) → fieldsTaken t (row l) ≡ l
+row-once zero l = refl
+row-once (suc t) l = refl
+
+-- a row that makes a list makes the list of its bytes
+pub row-itself : {d s : List ℕ} {p : ℕ} {l : List Field} → RowAt d s p l → RowAt d s p (rowList d p)
+row-itself r = record { head = r .head; fields = refl; groups = r .groups }
+
+module _ (d s z e : List ℕ) (i t : ℕ) (tied : Tied d s z e) where
+  -- an entry other than 0 is an SDA's
+  sda-fields : (D : Described) → lookup i (describedBy d) ≡ some D → Takes t D → (getD e i 0 ≡ 0 → ⊥)
+      → (f : Field) × (fieldsReferred t (lookup i (describedBy d)) ≡ replicate (countTaken (getD z i 0) t) f) × (entryOf f ≡ getD e i 0)
+  sda-fields D o h m = go D o h (tied .each i D o)
+    where
+      go : (D : Described) → lookup i (describedBy d) ≡ some D → Takes t D → Kept d s z e i D
+          → (f : Field) × (fieldsReferred t (lookup i (describedBy d)) ≡ replicate (countTaken (getD z i 0) t) f) × (entryOf f ≡ getD e i 0)
+      go (array f xs) o h k = (f, ap (fieldsReferred t) o ∙ sda-once t f xs k h, sym (k .entry))
+      go (row l) o h k = absurd (m (k .unmarked))
+
+  -- the entry 0 is an RLO's
+  row-fields : (D : Described) → lookup i (describedBy d) ≡ some D → getD e i 0 ≡ 0
+      → (fieldsReferred t (lookup i (describedBy d)) ≡ rowList d (getD s i 0)) × RowAt d s (getD s i 0) (rowList d (getD s i 0))
+  row-fields D o m = go D o (tied .each i D o)
+    where
+      go : (D : Described) → lookup i (describedBy d) ≡ some D → Kept d s z e i D
+          → (fieldsReferred t (lookup i (describedBy d)) ≡ rowList d (getD s i 0)) × RowAt d s (getD s i 0) (rowList d (getD s i 0))
+      go (array f xs) o k = let h : 0 < getD e i 0 = k .marked in absurd (omega arith)
+      go (row l) o k = (ap (fieldsReferred t) o ∙ row-once t l ∙ k .made .fields, row-itself (k .made))
+
+-- one field over and over, in numbers
+same-fields : (l : List Field) (n x : ℕ) (f : Field) → l ≡ replicate n f → entryOf f ≡ x → (map entryOf l ≡ replicate n x) × (length l ≡ n)
+same-fields l n x f u v =
+    (ap (map entryOf) u ∙ map-replicate entryOf n f ∙ ap (replicate n) v, ap length u ∙ length-replicate n f)
+
+-- ---- `group`
+
+module _ (d s z e : List ℕ) (q g at : ℕ) (tied : Tied d s z e) (r : Refers d s q (groupAt d g)) where
+  module _ (m : getD e (getD d g 0) 0 ≡ 0 → ⊥) (n : ℕ) (c : n ≡ countTaken (getD z (getD d g 0) 0) (getD d (g + 1) 0)) where
+    sda-list : (map entryOf (groupList d g) ≡ replicate (getD d (g + 2) 0 * n) (getD e (getD d g 0) 0)) × (length (groupList d g) ≡ getD d (g + 2) 0 * n)
+    unfolding groupAt groupList
+    sda-list =
+        let w = sda-fields d s z e (getD d g 0) (getD d (g + 1) 0) tied (r .to) (r .known) (r .takes) m in
+        let once : fieldsReferred (getD d (g + 1) 0) (lookup (getD d g 0) (describedBy d)) ≡ replicate n (w .0) =
+        w .1 ∙ ap (λ (k : ℕ). replicate k (w .0)) (sym c) in
+        same-fields (groupList d g) (getD d (g + 2) 0 * n) (getD e (getD d g 0) 0) (w .0)
+        (ap (repeat (getD d (g + 2) 0)) once ∙ repeat-replicate (getD d (g + 2) 0) n (w .0)) (w .2)
+
+    pub sda-room : (size : ℕ) → at + length (groupList d g) ≤ size → at + getD d (g + 2) 0 * n ≤ size
+    sda-room size h = omega (arith, sda-list .1)
+
+    pub sda-fits : (plan : List ℕ) → at + length (groupList d g) ≤ length plan → length plan * 8 < 2 ^ 63 → Fits w64 (getD d (g + 2) 0 * n)
+    sda-fits plan h l = omega (arith, sda-list .1)
+
+    pub sda-place : (b : ℕ) → b ≡ at + getD d (g + 2) 0 * n → b ≡ at + length (groupList d g)
+    sda-place b u = omega (arith, sda-list .1)
+
+    pub sda-written : (plan plan′ : List ℕ) → plan′ ≡ sets plan at (replicate (getD d (g + 2) 0 * n) (getD e (getD d g 0) 0))
+        → plan′ ≡ sets plan at (map entryOf (groupList d g))
+    sda-written plan plan′ u = u ∙ ap (sets plan at) (sym (sda-list .0))
+
+  module _ (m : getD e (getD d g 0) 0 ≡ 0) where
+    abbrev once : List Field
+    once = rowList d (getD s (getD d g 0) 0)
+
+    pub row-made : RowAt d s (getD s (getD d g 0) 0) once
+    unfolding groupAt
+    row-made = row-fields d s z e (getD d g 0) (getD d (g + 1) 0) tied (r .to) (r .known) m .1
+
+    row-list : groupList d g ≡ once ++ repeat (getD d (g + 2) 0 - 1) once
+    unfolding groupAt groupList
+    row-list =
+        ap (repeat (getD d (g + 2) 0)) (row-fields d s z e (getD d g 0) (getD d (g + 1) 0) tied (r .to) (r .known) m .0)
+        ∙ repeat-first (getD d (g + 2) 0) once (r .repeats)
+
+    row-length : length (groupList d g) ≡ length once + (getD d (g + 2) 0 - 1) * length once
+    row-length = ap length row-list ∙ length-append once _ ∙ ap (λ (n : ℕ). length once + n) (length-repeat (getD d (g + 2) 0 - 1) once)
+
+    pub row-room : (size : ℕ) → at + length (groupList d g) ≤ size → at + length once ≤ size
+    row-room size h = omega (arith, row-length)
+
+    module _ (b : ℕ) (u : b ≡ at + length once) where
+      between-once : b - at ≡ length once
+      between-once = omega arith
+
+      pub copies-room : (plan plan₁ : List ℕ) → at + length (groupList d g) ≤ length plan → plan₁ ≡ sets plan at (map entryOf once)
+          → b + (getD d (g + 2) 0 - 1) * (b - at) ≤ length plan₁
+      copies-room plan plan₁ h v = rw (v, length-sets, between-once) (omega (arith, row-length))
+
+      pub row-place : (b′ : ℕ) → b′ ≡ b + (getD d (g + 2) 0 - 1) * (b - at) → b′ ≡ at + length (groupList d g)
+      row-place b′ u′ = rw between-once at u′ ∙ omega (arith, row-length)
+
+      pub row-written : (plan plan₁ plan₂ : List ℕ) → at + length (groupList d g) ≤ length plan → plan₁ ≡ sets plan at (map entryOf once)
+          → plan₂ ≡ sets plan₁ b (repeat (getD d (g + 2) 0 - 1) (take (b - at) (drop at plan₁))) → plan₂ ≡ sets plan at (map entryOf (groupList d g))
+      row-written plan plan₁ plan₂ h v v′ =
+          let l : List ℕ = map entryOf once in
+          let n : ℕ = getD d (g + 2) 0 - 1 in
+          let e : length l ≡ length once = length-map once entryOf in
+          let back : take (b - at) (drop at plan₁) ≡ l = rw (v, between-once, ← e) (read-back plan l at (omega (arith, row-length))) in
+          v′
+          ∙ ap (λ (x : List ℕ). sets plan₁ b (repeat n x)) back
+          ∙ ap (λ (x : List ℕ). sets x b (repeat n l)) v
+          ∙ ap (λ (x : ℕ). sets (sets plan at l) x (repeat n l)) (u ∙ ap (λ (x : ℕ). at + x) (sym e))
+          ∙ sets-append plan l (repeat n l) at
+          ∙ ap (λ (x : List ℕ). sets plan at (l ++ x)) (sym (map-repeat entryOf n once))
+          ∙ ap (sets plan at) (sym (map-append entryOf once (repeat n once)))
+          ∙ ap (λ (x : List Field). sets plan at (map entryOf x)) (sym row-list)
+
+-- ---- `write`
+
+module _ (d s z e : List ℕ) (i : ℕ) (tied : Tied d s z e) (k : Known d i) where
+  module _ (m : getD e i 0 ≡ 0 → ⊥) (n : ℕ) (c : n ≡ countTaken (getD z i 0) 0) where
+    all-list : (map entryOf (listOf d i) ≡ replicate n (getD e i 0)) × (length (listOf d i) ≡ n)
+    unfolding listOf
+    all-list =
+        let w = sda-fields d s z e i 0 tied (k .what) (k .known) all m in
+        same-fields (listOf d i) n (getD e i 0) (w .0) (w .1 ∙ ap (λ (x : ℕ). replicate x (w .0)) (sym c)) (w .2)
+
+    pub all-room : (size : ℕ) → length (listOf d i) ≤ size → 0 + n ≤ size
+    all-room size h = omega (arith, all-list .1)
+
+    pub all-written : (plan plan′ : List ℕ) → plan′ ≡ sets plan 0 (replicate n (getD e i 0)) → plan′ ≡ sets plan 0 (map entryOf (listOf d i))
+    all-written plan plan′ u = u ∙ ap (sets plan 0) (sym (all-list .0))
+
+  module _ (m : getD e i 0 ≡ 0) where
+    pub top-made : RowAt d s (getD s i 0) (rowList d (getD s i 0))
+    top-made = row-fields d s z e i 0 tied (k .what) (k .known) m .1
+
+    top-list : listOf d i ≡ rowList d (getD s i 0)
+    unfolding listOf
+    top-list = row-fields d s z e i 0 tied (k .what) (k .known) m .0
+
+    pub top-fits : Fits w64 (getD s i 0)
+    top-fits = omega (arith, top-made .head, tied .small)
+
+    pub top-room : (size : ℕ) → length (listOf d i) ≤ size → 0 + length (rowList d (getD s i 0)) ≤ size
+    top-room size h = omega (arith, ap length top-list)
+
+    pub top-written : (plan plan′ : List ℕ) → plan′ ≡ sets plan 0 (map entryOf (rowList d (getD s i 0))) → plan′ ≡ sets plan 0 (map entryOf (listOf d i))
+    top-written plan plan′ u = u ∙ ap (λ (l : List Field). sets plan 0 (map entryOf l)) (sym top-list)

@@ -1,0 +1,28 @@
+-- What the functions that write a plan find at a place of a descriptor.
+use Prim.Native.Nat.{ℕ, _+_, _-_, _*_, _/_, _%_}
+use mathlib.Core.List.{List}
+use lib.Dec.{ltb, eqb}
+use lib.ListN.{length, getD}
+use Rattle.fdoca.specs.Basics.{if_then_else_}
+use Rattle.fdoca.specs.Triplet.{Group}
+use Rattle.fdoca.specs.Item.{Field}
+use Rattle.fdoca.specs.Unfolding.{groupFields}
+use Rattle.plans.specs.Tied.{describedBy}
+
+-- The group whose three bytes stand at g, and the list that it adds.
+unfoldable pub groupAt : List ℕ → (g : ℕ) → Group
+groupAt d g = record { ref = getD d g 0; taken = getD d (g + 1) 0; factor = getD d (g + 2) 0 }
+
+unfoldable pub groupList : List ℕ → (g : ℕ) → List Field
+groupList d g = groupFields (describedBy d) (groupAt d g)
+
+-- How many items a group takes once of an SDA of this size (`SdaKept`): all, or elements taken times the product of the lower extents.
+unfoldable pub countTaken : (size taken : ℕ) → ℕ
+countTaken size taken = if eqb taken 0 then size % 65536 else taken * (size / 65536)
+
+-- The end of the CPT at g; 0 where none stands there.
+unfoldable pub endOfCPT : List ℕ → (g : ℕ) → ℕ
+endOfCPT d g =
+    if ltb (length d - g) 3 then 0
+    else if eqb (getD d (g + 1) 0) 0x7F then g + getD d g 0
+    else 0

@@ -1,0 +1,93 @@
+-- The groups of a triplet, one after the other.
+-- Assumes nothing.
+use mathlib.Core.Path.{_≡_, refl, sym, ap, _∙_}
+use mathlib.Core.Logic.{_≢_}
+use Prim.Native.Nat.{ℕ, zero, suc, _+_, _-_, _*_, _%_, _≤_, _<_}
+use native.Mathlib.Omega.{arith}
+use native.Mathlib.Numerals.{add-one}
+use mathlib.Core.Bool.{Bool, true, false, _&&_}
+use mathlib.Core.List.{List, [], _∷_}
+use mathlib.Core.Option.{Option, none, some}
+use lib.Dec.{leb, eqb}
+use lib.ListN.{length, getD, drop, drop-of-length-le}
+use lib.Seq.{drop-cons}
+use borrow.Author.Tests.{eq-eqb, ne-eqb, leb-true, eqb-true}
+use Rattle.fdoca.specs.Basics.{if_then_else_, lookup, Result, refuse, ok, _>>=_}
+use Rattle.fdoca.specs.Triplet.{Group, threes, groupsOf}
+use Rattle.fdoca.specs.Check.{Entry, addGroup, addGroups, goodLengthRow}
+use Rattle.triplets.specs.declared.Sum.{Sum}
+use Rattle.triplets.specs.Judged.{outcome, KeptAs, Agrees, groupOf, GoodRow, AddedGroup, AddedGroups}
+use Rattle.triplets.proofs.Outcomes.{refused-outcome, found-outcome}
+
+pub whole-groups : (t : List ℕ) → goodLengthRow t ≡ true → GoodRow t
+whole-groups t = go (leb 6 (length t)) (eqb (length t % 3) 0) refl refl
+  where
+    go : (a b : Bool) → leb 6 (length t) ≡ a → eqb (length t % 3) 0 ≡ b → (a && b) ≡ true → GoodRow t
+    go true true e f h = record { some-there = leb-true 6 (length t) e; by-three = eqb-true (length t % 3) 0 f }
+    go true false e f h = absurd (let z : _≡_ {A = ℕ} 0 1 = cc in let w : ⊥ = omega arith in w)
+    go false b e f h = absurd (let z : _≡_ {A = ℕ} 0 1 = cc in let w : ⊥ = omega arith in w)
+
+-- the group at place g
+pub three-at : (t : List ℕ) (g : ℕ) → g + 3 ≤ length t
+    → threes (drop g t) ≡ groupOf (getD t g 0) (getD t (g + 1) 0) (getD t (g + 2) 0) ∷ threes (drop (g + 3) t)
+three-at t g h =
+    let e₁ : g + 1 ≡ suc g = omega arith in
+    let e₂ : g + 2 ≡ suc (suc g) = omega arith in
+    let e₃ : g + 3 ≡ suc (suc (suc g)) = omega arith in
+    rw (e₁, e₂, e₃, drop-cons t g 0 (omega arith), drop-cons t (suc g) 0 (omega arith), drop-cons t (suc (suc g)) 0 (omega arith))
+
+-- before the group at g: n items so far
+pub record Adding (t s z : List ℕ) (sum n g : ℕ) : Type 0 where
+  pub small : n ≤ 4096
+  pub there : g ≤ length t
+  pub in-threes : (length t - g) % 3 ≡ 0
+  pub same : (p : ℕ) (es : List (ℕ × Entry)) → Agrees s z es → addGroups p es sum (groupsOf t) ≡ addGroups p es n (threes (drop g t))
+
+module _ (t s z : List ℕ) (sum : ℕ) where
+  pub adding-start : goodLengthRow t ≡ true → sum ≤ 4096 → Adding t s z sum sum 3
+  adding-start h k =
+      let w : GoodRow t = whole-groups t h in
+      record { small = k; there = omega (arith, w .some-there); in-threes = omega (arith, w .some-there, w .by-three); same = λ p es a. refl }
+
+  module _ (n g : ℕ) (inv : Adding t s z sum n g) where
+    pub group-whole : g < length t → g + 3 ≤ length t
+    group-whole h = omega (arith, inv .in-threes)
+
+    pub group-second : g < length t → g + 1 < length t
+    group-second h = omega (arith, inv .in-threes)
+
+    pub group-third : g < length t → g + 2 < length t
+    group-third h = omega (arith, inv .in-threes)
+
+    -- the groups from g on, with what adding the one at g gave
+    step : (i : ℕ) (r : Sum) → g < length t → i ≡ getD t g 0 → i < 256 → AddedGroup (getD s i 0) (getD z i 0) (getD t (g + 1) 0) (getD t (g + 2) 0) n r
+        → (p : ℕ) (es : List (ℕ × Entry)) → Agrees s z es
+        → addGroups p es sum (groupsOf t) ≡ (outcome (r .number) p (r .count) >>= (λ m. addGroups p es m (threes (drop (g + 3) t))))
+    unfolding addGroups
+    step i r h e l a p es k =
+        let x : addGroup p n (groupOf i (getD t (g + 1) 0) (getD t (g + 2) 0)) (lookup i es) ≡ outcome (r .number) p (r .count) = a .result p i (lookup i es) (k i l) in
+        inv .same p es k ∙ rw (three-at t g (group-whole h), ← e, x)
+
+    pub adding-stop : (i : ℕ) (r : Sum) → g < length t → i ≡ getD t g 0 → i < 256
+        → AddedGroup (getD s i 0) (getD z i 0) (getD t (g + 1) 0) (getD t (g + 2) 0) n r → (r .number ≡ 0 → ⊥) → AddedGroups (groupsOf t) s z sum r
+    unfolding outcome
+    adding-stop i r h e l a q = record { result = λ p es k. step i r h e l a p es k ∙ simp (ne-eqb (r .number) 0 q); small = a .small }
+
+    pub adding-more : (i : ℕ) (r : Sum) → g < length t → i ≡ getD t g 0 → i < 256
+        → AddedGroup (getD s i 0) (getD z i 0) (getD t (g + 1) 0) (getD t (g + 2) 0) n r → r .number ≡ 0 → Adding t s z sum (r .count) (g + 3)
+    unfolding outcome
+    adding-more i r h e l a q =
+        record {
+          small = a .small;
+          there = group-whole h;
+          in-threes = omega (arith, inv .in-threes);
+          same = λ p es k. step i r h e l a p es k ∙ simp (eq-eqb (r .number) 0 q);
+        }
+
+    pub adding-end : (r : Sum) → length t ≤ g → r ≡ record { number = 0; count = n } → AddedGroups (groupsOf t) s z sum r
+    unfolding addGroups
+    adding-end r h e =
+        record {
+          result = λ p es k. inv .same p es k ∙ rw (drop-of-length-le t h, e) (found-outcome 0 p n refl);
+          small = rw e (inv .small);
+        }
