@@ -1,7 +1,8 @@
-pub mod Outcomes
-pub mod Sda
-pub mod Sums
-pub mod Groups
-pub mod Judging
-pub mod Isd
-pub mod Entries
+pub mod Rows
+pub mod Refs
+pub mod Grow
+pub mod Closing
+pub mod Stepping
+pub mod Moving
+pub mod Advancing
+pub mod Examining

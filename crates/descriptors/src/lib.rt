@@ -1,33 +1,53 @@
 // The check of a descriptor, triplet by triplet from left to right.
 ghost use mathlib.Core.Path.{_≡_};
-ghost use Prim.Native.Nat.{_+_, _-_, _*_, _/_, _%_, _≤_, _<_};
-ghost use mathlib.Core.Bool.{true};
-ghost use mathlib.Core.List.{[], _∷_};
-ghost use lib.ListN.{length};
-ghost use Rattle.fdoca.specs.Triplet.{extentsOf, groupsOf};
-ghost use Rattle.fdoca.specs.Basics.{elem, product};
-ghost use Rattle.fdoca.specs.Check.{goodLengthSDA, goodSDA, goodLengthRow, goodLengthISD, goodISD};
-ghost use Rattle.plans.specs.Tied.{lowerOf};
-ghost use Rattle.descriptors.specs.Judged.{extentOr1, summed, JudgedSDA, AddedGroup, AddedGroups, JudgedRLO, JudgedCPT, JudgedISD};
-ghost use Rattle.descriptors.specs.Kept.{EntryOf, PutSDA, PutRow, MakesSame};
+ghost use Prim.Native.Nat.{ℕ, _+_, _-_, _*_, _≤_, _<_};
+ghost use mathlib.Core.Bool.{true, false};
+ghost use mathlib.Core.List.{List};
+ghost use lib.ListN.{length, getD, set, replicate};
+ghost use Rattle.fdoca.specs.Basics.{refuse};
+ghost use Rattle.fdoca.specs.Triplet.{triplets};
+ghost use Rattle.fdoca.specs.Check.{check, checkTriplets, begin};
+ghost use Rattle.fdoca.specs.Calls.{checked};
+ghost use Rattle.descriptors.specs.Holds.{MakesSame, Held, ClosedRow, SteppedSDA, SteppedRLO, SteppedCPT, Advanced, Bare, Examination};
+use fdoca::Checked;
+use triplets::Sum;
 
-// The largest count of items.
-const MOST: usize = 4096;
-
-// The position of an id that no triplet has described.
-const NOWHERE: u16 = 65535;
-
-// A count of items, or the number of the refusal that stands in its way.
-struct Sum {
-    number: u8,
-    count: usize,
+// What the triplets so far have led to: a refusal's number, or the SDA or RLO that was described last, with its id (0 for none) and its count.
+// `row` is set while a CPT may continue an RLO, and `at` is then its place.
+pub struct Step {
+    pub number: u8,
+    pub row: bool,
+    pub id: u8,
+    pub at: usize,
+    pub count: usize,
 }
 
-fn refusal(number: u8) -> Sum
-    ensures { λ r. ⌜ (r .number ≡ number) × (r .count ≡ 0) ⌝ }
+// What examining a descriptor gives: the check's answer, and the id of the triplet that describes the block.
+pub struct Examined {
+    pub number: u32,
+    pub place: u32,
+    pub items: u32,
+    pub id: u8,
+}
+
+// The construct types.
+const SDA: u8 = 0x70;
+
+const RLO: u8 = 0x71;
+
+const ISD: u8 = 0x7E;
+
+const CPT: u8 = 0x7F;
+
+// A step that describes nothing: a refusal, or 0 for an ISD.
+fn bare(number: u8) -> Step
+    ensures { λ r. ⌜ Bare number r ⌝ }
 {
-    Sum {
+    Step {
         number: number,
+        row: false,
+        id: 0,
+        at: 0,
         count: 0,
     }
 }
@@ -38,316 +58,200 @@ fn wide(b: u8) -> usize
     b as usize
 }
 
-// The two halves of a size: a count, and the product by which elements taken is multiplied.
-fn low(size: u32) -> usize
-    ensures { λ r. ⌜ (r ≡ size % 65536) × (r < 65536) ⌝ }
+// The place of a row that makes the list of the one at `at`, which ends at p: its own, or, where its only group is another row once, that
+// row's. So going down the references never passes through such rows one by one.
+fn row_place(desc: &[u8], starts: &[u16; 256], entries: &[u64; 256], at: usize, p: usize) -> u16
+    requires { ⌜ (at + 6 ≤ p) × (p ≤ length (now desc)) × (p ≤ 4096) ⌝ }
+    ensures { λ r. ⌜ MakesSame (now (desc .entry)) (now (starts .entry)) (now (entries .entry)) at p r ⌝ }
 {
-    (size % 65536) as usize
+    let own = at as u16;
+    if p - at != 6 {
+        return own;
+    }
+    if desc[at] != 6 {
+        return own;
+    }
+    if desc[at + 5] != 1 {
+        return own;
+    }
+    let id = wide(desc[at + 3]);
+    if entries[id] != 0 {
+        return own;
+    }
+    starts[id]
 }
 
-fn high(size: u32) -> usize
-    ensures { λ r. ⌜ (r ≡ size / 65536) × (r < 65536) ⌝ }
-{
-    (size / 65536) as usize
-}
-
-// LENGTH of an SDA: 12 plus zero to three extents.
-fn sda_length(t: &[u8]) -> bool
-    ensures { λ r. ⌜ r ≡ goodLengthSDA (now (t .entry)) ⌝ }
-{
-    let n = t.len();
-    if n == 12 {
-        return true;
-    }
-    if n == 14 {
-        return true;
-    }
-    if n == 16 {
-        return true;
-    }
-    if n == 18 {
-        return true;
-    }
-    false
-}
-
-// LENGTH of an RLO or a CPT: 3 plus a positive multiple of 3.
-fn row_length(t: &[u8]) -> bool
-    ensures { λ r. ⌜ r ≡ goodLengthRow (now (t .entry)) ⌝ }
-{
-    let n = t.len();
-    if n < 6 {
-        return false;
-    }
-    n % 3 == 0
-}
-
-// The extent at a place of an SDA, or 1 where LENGTH leaves it out.
-fn extent(t: &[u8], at: usize) -> usize
-    requires { ⌜ at ≤ 16 ⌝ }
-    ensures { λ r. ⌜ (r ≡ extentOr1 (now (t .entry)) at) × (r < 65536) ⌝ }
-{
-    if t.len() < at + 2 {
-        return 1;
-    }
-    field_types::pair(t[at], t[at + 1])
-}
-
-// The product of an SDA's lower extents.
-fn lower_product(t: &[u8]) -> usize
-    ensures { λ r. ⌜ (r ≡ extentOr1 (now (t .entry)) 14 * extentOr1 (now (t .entry)) 16) × (r < 4294967296) ⌝ }
-{
-    extent(t, 14) * extent(t, 16)
-}
-
-// How many items an SDA stands for: the product of its extents.
-fn item_count(t: &[u8]) -> usize
-    requires { ⌜ goodLengthSDA (now t) ≡ true ⌝ }
-    ensures { λ r. ⌜ (r ≡ product (extentsOf (now (t .entry)))) × (r < 281474976710656) ⌝ }
-{
-    extent(t, 12) * lower_product(t)
-}
-
-// An SDA's id, type, parameters and extents.
-fn sda_good(t: &[u8]) -> bool
-    requires { ⌜ goodLengthSDA (now t) ≡ true ⌝ }
-    ensures { λ r. ⌜ r ≡ goodSDA (now (t .entry)) ⌝ }
-{
-    if t[2] == 0 {
-        return false;
-    }
-    if !field_types::parameters_ok(t[3], &t[4..12]) {
-        return false;
-    }
-    0 < item_count(t)
-}
-
-// An SDA's item count, or the number of its refusal.
-fn judge_sda(t: &[u8], starts: &[u16; 256]) -> Sum
-    ensures { λ r. ⌜ JudgedSDA (now (t .entry)) (now (starts .entry)) r ⌝ }
-{
-    if !sda_length(t) {
-        return refusal(5);
-    }
-    if !sda_good(t) {
-        return refusal(6);
-    }
-    let id = wide(t[2]);
-    if starts[id] != NOWHERE {
-        return refusal(7);
-    }
-    let n = item_count(t);
-    if MOST < n {
-        return refusal(10);
-    }
-    Sum {
-        number: 0,
-        count: n,
-    }
-}
-
-// A row's count with n more items.
-fn total(sum: usize, n: usize) -> Sum
-    requires { ⌜ sum ≤ 4096 ⌝ }
-    ensures { λ r. ⌜ r ≡ summed sum n ⌝ }
-{
-    if MOST - sum < n {
-        return Sum {
-            number: 10,
-            count: 0,
-        };
-    }
-    Sum {
-        number: 0,
-        count: sum + n,
-    }
-}
-
-// A row's count with one more group, or the number of the group's refusal. `start` and `size` are what the tables have for the id that it
-// refers to.
-fn add_group(start: u16, size: u32, taken: u8, factor: u8, sum: usize) -> Sum
-    requires { ⌜ sum ≤ 4096 ⌝ }
-    ensures { λ r. ⌜ AddedGroup start size taken factor sum r ⌝ }
-{
-    if start == NOWHERE {
-        return refusal(8);
-    }
-    if factor == 0 {
-        return refusal(9);
-    }
-    let times = wide(factor);
-    if taken == 0 {
-        let count = low(size);
-        return total(sum, times * count);
-    }
-    let lower = high(size);
-    if lower == 0 {
-        return refusal(9);
-    }
-    total(sum, times * (wide(taken) * lower))
-}
-
-// A row's count with the groups of an RLO or a CPT, or the number of the first refusal among them.
-fn add_groups(t: &[u8], starts: &[u16; 256], sizes: &[u32; 256], sum: usize) -> Sum
-    requires { ⌜ (goodLengthRow (now t) ≡ true) × (sum ≤ 4096) ⌝ }
-    ensures { λ r. ⌜ AddedGroups (groupsOf (now (t .entry))) (now (starts .entry)) (now (sizes .entry)) sum r ⌝ }
-{
-    let mut n = sum;
-    let mut g = 3;
-    while g < t.len() {
-        let id = wide(t[g]);
-        let added = add_group(starts[id], sizes[id], t[g + 1], t[g + 2], n);
-        if added.number != 0 {
-            return added;
-        }
-        n = added.count;
-        g += 3;
-    }
-    Sum {
-        number: 0,
-        count: n,
-    }
-}
-
-// An RLO's count, or the number of its refusal.
-fn judge_rlo(t: &[u8], starts: &[u16; 256], sizes: &[u32; 256]) -> Sum
-    ensures { λ r. ⌜ JudgedRLO (now (t .entry)) (now (starts .entry)) (now (sizes .entry)) r ⌝ }
-{
-    if !row_length(t) {
-        return refusal(5);
-    }
-    if t[2] == 0 {
-        return refusal(6);
-    }
-    let id = wide(t[2]);
-    if starts[id] != NOWHERE {
-        return refusal(7);
-    }
-    add_groups(t, starts, sizes, 0)
-}
-
-// The count of a row of `sum` items with those of a CPT, or the number of its refusal.
-fn judge_cpt(t: &[u8], starts: &[u16; 256], sizes: &[u32; 256], sum: usize) -> Sum
-    requires { ⌜ sum ≤ 4096 ⌝ }
-    ensures { λ r. ⌜ JudgedCPT (now (t .entry)) (now (starts .entry)) (now (sizes .entry)) sum r ⌝ }
-{
-    if !row_length(t) {
-        return refusal(5);
-    }
-    if t[2] != 0 {
-        return refusal(6);
-    }
-    add_groups(t, starts, sizes, sum)
-}
-
-// LENGTH of an ISD.
-fn isd_length(t: &[u8]) -> bool
-    ensures { λ r. ⌜ r ≡ goodLengthISD (now (t .entry)) ⌝ }
-{
-    let n = t.len();
-    if n == 5 {
-        return true;
-    }
-    if n == 6 {
-        return true;
-    }
-    false
-}
-
-fn subset_good(subset: usize) -> bool
-    ensures { λ r. ⌜ r ≡ elem subset (0 ∷ 256 ∷ []) ⌝ }
-{
-    if subset == 0 {
-        return true;
-    }
-    if subset == 256 {
-        return true;
-    }
-    false
-}
-
-// An ISD's id, subset and version.
-fn isd_good(t: &[u8]) -> bool
-    requires { ⌜ goodLengthISD (now t) ≡ true ⌝ }
-    ensures { λ r. ⌜ r ≡ goodISD (now (t .entry)) ⌝ }
-{
-    if t[2] != 0 {
-        return false;
-    }
-    if !subset_good(field_types::pair(t[3], t[4])) {
-        return false;
-    }
-    if t.len() < 6 {
-        return true;
-    }
-    if t[5] == 1 {
-        return true;
-    }
-    false
-}
-
-// The number of an ISD's refusal at p, or 0.
-fn judge_isd(t: &[u8], p: usize) -> u8
-    ensures { λ r. ⌜ JudgedISD (now (t .entry)) p r ⌝ }
-{
-    if p != 0 {
-        return 4;
-    }
-    if !isd_length(t) {
-        return 5;
-    }
-    if !isd_good(t) {
-        return 6;
-    }
-    0
-}
-
-fn wide64(b: u8) -> u64
-    ensures { λ r. ⌜ (r ≡ b) × (r < 256) ⌝ }
-{
-    b as u64
-}
-
-// The plan's entry for an SDA's field.
-fn plan_entry(t: &[u8]) -> u64
-    requires { ⌜ goodLengthSDA (now t) ≡ true ⌝ }
-    ensures { λ r. ⌜ EntryOf (now (t .entry)) r ⌝ }
-{
-    let rule = field_types::rule_at(field_types::row_of(t[3]));
-    let layout = wide64(rule.prefix);
-    let mode = wide64(t[9]) + 256 * layout;
-    let code = wide64(t[3]) + 256 * mode;
-    let id = wide64(t[2]) + 256 * code;
-    let length = wide64(t[10]) * 256 + wide64(t[11]);
-    length + 65536 * id
-}
-
-// The product by which elements taken is multiplied: 0 without extents.
-fn lower_of(t: &[u8]) -> usize
-    requires { ⌜ goodLengthSDA (now t) ≡ true ⌝ }
-    ensures { λ r. ⌜ r ≡ lowerOf (extentsOf (now (t .entry))) ⌝ }
-{
-    if t.len() == 12 {
-        return 0;
-    }
-    lower_product(t)
-}
-
-// Enters an SDA at p into the tables.
-fn put_sda(
-    t: &[u8],
-    p: usize,
-    count: usize,
+// Enters the row of the step before, if there is one, into the tables: it ends at p.
+fn close(
+    desc: &[u8],
     starts: &mut [u16; 256],
     sizes: &mut [u32; 256],
     entries: &mut [u64; 256],
+    p: usize,
+    x: Step,
 )
-    requires { ⌜ (goodLengthSDA (now t) ≡ true) × (goodSDA (now t) ≡ true) × (p < 4096) × (count ≡ product (extentsOf (now t))) × (count ≤ 4096) ⌝ }
-    ensures { λ _. ⌜ PutSDA (now (t .entry)) p (now (starts .entry)) (now (sizes .entry)) (now (entries .entry)) (now (starts .exit)) (now (sizes .exit)) (now (entries .exit)) ⌝ }
+    requires { ⌜ Held (now desc) (now starts) (now sizes) (now entries) p x × (length (now desc) ≤ 4096) ⌝ }
+    ensures { λ _. ⌜ ClosedRow (now (desc .entry)) (now (starts .entry)) (now (sizes .entry)) (now (entries .entry)) (now (starts .exit)) (now (sizes .exit)) (now (entries .exit)) p x ⌝ }
 {
-    let id = wide(t[2]);
-    let lower = lower_of(t);
-    starts[id] = p as u16;
-    sizes[id] = (count + 65536 * lower) as u32;
-    entries[id] = plan_entry(t);
+    if !x.row {
+        return;
+    }
+    let place = row_place(desc, starts, entries, x.at, p);
+    let id = wide(x.id);
+    starts[id] = place;
+    sizes[id] = x.count as u32;
+    entries[id] = 0;
+}
+
+fn sda_step(
+    t: &[u8],
+    p: usize,
+    starts: &mut [u16; 256],
+    sizes: &mut [u32; 256],
+    entries: &mut [u64; 256],
+) -> Step
+    requires { ⌜ p < 4096 ⌝ }
+    ensures { λ r. ⌜ SteppedSDA (now (t .entry)) p (now (starts .entry)) (now (sizes .entry)) (now (entries .entry)) (now (starts .exit)) (now (sizes .exit)) (now (entries .exit)) r ⌝ }
+{
+    let judged = triplets::judge_sda(t, starts);
+    if judged.number != 0 {
+        return bare(judged.number);
+    }
+    triplets::put_sda(t, p, judged.count, starts, sizes, entries);
+    Step {
+        number: 0,
+        row: false,
+        id: t[2],
+        at: p,
+        count: judged.count,
+    }
+}
+
+fn rlo_step(t: &[u8], p: usize, starts: &[u16; 256], sizes: &[u32; 256]) -> Step
+    ensures { λ r. ⌜ SteppedRLO (now (t .entry)) p (now (starts .entry)) (now (sizes .entry)) r ⌝ }
+{
+    let judged = triplets::judge_rlo(t, starts, sizes);
+    if judged.number != 0 {
+        return bare(judged.number);
+    }
+    Step {
+        number: 0,
+        row: true,
+        id: t[2],
+        at: p,
+        count: judged.count,
+    }
+}
+
+fn cpt_step(t: &[u8], starts: &[u16; 256], sizes: &[u32; 256], x: Step) -> Step
+    requires { ⌜ x .count ≤ 4096 ⌝ }
+    ensures { λ r. ⌜ SteppedCPT (now (t .entry)) (now (starts .entry)) (now (sizes .entry)) x r ⌝ }
+{
+    if !x.row {
+        return bare(4);
+    }
+    let judged = triplets::judge_cpt(t, starts, sizes, x.count);
+    if judged.number != 0 {
+        return bare(judged.number);
+    }
+    Step {
+        number: 0,
+        row: true,
+        id: x.id,
+        at: x.at,
+        count: judged.count,
+    }
+}
+
+// The step over the triplet at p, x being the step before.
+fn advance(
+    desc: &[u8],
+    starts: &mut [u16; 256],
+    sizes: &mut [u32; 256],
+    entries: &mut [u64; 256],
+    p: usize,
+    x: Step,
+) -> Step
+    requires { ⌜ Held (now desc) (now starts) (now sizes) (now entries) p x × (p < length (now desc)) × (length (now desc) ≤ 4096) ⌝ }
+    ensures { λ r. ⌜ Advanced (now (desc .entry)) (now (starts .exit)) (now (sizes .exit)) (now (entries .exit)) p r ⌝ }
+{
+    let n = wide(desc[p]);
+    if n < 2 {
+        return bare(2);
+    }
+    if desc.len() - p < n {
+        return bare(2);
+    }
+    let end = p + n;
+    let t = &desc[p..end];
+    let kind = t[1];
+    if kind == CPT {
+        return cpt_step(t, starts, sizes, x);
+    }
+    close(desc, starts, sizes, entries, p, x);
+    if kind == SDA {
+        return sda_step(t, p, starts, sizes, entries);
+    }
+    if kind == RLO {
+        return rlo_step(t, p, starts, sizes);
+    }
+    if kind == ISD {
+        return bare(triplets::judge_isd(t, p));
+    }
+    bare(3)
+}
+
+fn answer(number: u32, place: u32, items: u32, id: u8) -> Examined
+    ensures { λ r. ⌜ r ≡ record { number = number; place = place; items = items; id = id } ⌝ }
+{
+    Examined {
+        number: number,
+        place: place,
+        items: items,
+        id: id,
+    }
+}
+
+// Examines a descriptor: the check's answer; for an accepted one the tables are then filled for whoever writes its plan.
+pub fn examine(
+    desc: &[u8],
+    starts: &mut [u16; 256],
+    sizes: &mut [u32; 256],
+    entries: &mut [u64; 256],
+) -> Examined
+    requires { ⌜ (now starts ≡ replicate 256 65535) × (now sizes ≡ replicate 256 0) × (now entries ≡ replicate 256 0) ⌝ }
+    ensures { λ r. ⌜ Examination (now (desc .entry)) (now (starts .exit)) (now (sizes .exit)) (now (entries .exit)) r ⌝ }
+{
+    if 4096 < desc.len() {
+        return answer(1, 0, 0, 0);
+    }
+    let mut p = 0;
+    let mut x = bare(0);
+    while p < desc.len() {
+        x = advance(desc, starts, sizes, entries, p, x);
+        if x.number != 0 {
+            return answer(x.number as u32, p as u32, 0, 0);
+        }
+        p += wide(desc[p]);
+    }
+    if x.id == 0 {
+        return answer(11, p as u32, 0, 0);
+    }
+    close(desc, starts, sizes, entries, p, x);
+    answer(0, 0, x.count as u32, x.id)
+}
+
+// Checks a descriptor: how many items it describes, or the first reason to refuse it.
+pub fn check(descriptor: &[u8]) -> Checked
+    ensures { λ r. ⌜ r ≡ checked (check (now (descriptor .entry))) ⌝ }
+{
+    let mut starts = [triplets::NOWHERE; 256];
+    let mut sizes = [0u32; 256];
+    let mut entries = [0u64; 256];
+    let r = examine(descriptor, &mut starts, &mut sizes, &mut entries);
+    Checked {
+        number: r.number,
+        place: r.place,
+        items: r.items,
+    }
 }

@@ -144,7 +144,7 @@ check-construct (some RLO) u p t = rw (closed-state u) (check-RLO u p t)
 check-construct (some ISD) u p t = check-ISD u p t
 check-construct (some CPT) u p t = check-CPT u p t
 
-check-triplet : (u : U.Layouts) (t : Triplet) → IfOk (λ st. st ≡ state (U.unfoldTriplet u t)) (C.checkTriplet (state u) t)
+pub check-triplet : (u : U.Layouts) (t : Triplet) → IfOk (λ st. st ≡ state (U.unfoldTriplet u t)) (C.checkTriplet (state u) t)
 unfolding C.checkTriplet U.unfoldTriplet
 check-triplet u (torn p) = none-owed
 check-triplet u (triplet p t) = check-construct (constructOf t) u p t

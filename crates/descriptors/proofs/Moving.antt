@@ -1,0 +1,450 @@
+-- From the triplet at p to the next: what the check has come to, and what is known there.
+-- Assumes nothing.
+use mathlib.Core.Path.{_≡_, refl, sym, ap, _∙_, subst}
+use mathlib.Core.Logic.{_≢_}
+use Prim.Native.Nat.{ℕ, zero, suc, _+_, _-_, _*_, _/_, _%_, _≤_, _<_}
+use native.Mathlib.Omega.{arith}
+use native.Mathlib.Nat.{mul-zero}
+use mathlib.Core.Bool.{Bool, true, false, not, _||_, true≢false}
+use mathlib.Core.List.{List, [], _∷_, _++_, append-assoc}
+use mathlib.Core.Option.{Option, none, some}
+use lib.Dec.{ltb, eqb}
+use lib.ListN.{length, getD, set, take, drop, length-drop, length-replicate, replicate}
+use lib.Seq.{getD-set-same, length-take-le, getD-take, getD-drop}
+use borrow.Author.Tests.{eq-eqb, ne-eqb, eqb-true}
+use Rattle.fdoca.specs.Basics.{if_then_else_, product, lookup, isSome, Result, refuse, ok, _>>=_, _>>_, reject, the}
+use Rattle.fdoca.specs.Triplet.{Triplet, torn, triplet, triplets, Construct, SDA, RLO, ISD, CPT, constructOf, constructs, idOf, codeOf, extentsOf, Group, groupsOf}
+use Rattle.fdoca.specs.FieldType.{FieldType, typeOf}
+use Rattle.fdoca.specs.Item.{Field}
+use Rattle.fdoca.specs.Check.{Entry, State, maxItems, isDescribed, goodLengthSDA, goodSDA, goodLengthRow, addGroups, checkSDA, checkRLO, checkCPT, checkISD, checkConstruct, checkTriplet, checkTriplets, begin}
+use Rattle.fdoca.specs.Check as C
+use Rattle.fdoca.specs.Unfolding.{Described, array, row, fieldsOf, fieldOf, groupFields, addFields, Layouts, closed, closeRow, unfoldSDA, unfoldRLO, unfoldCPT, unfoldConstruct, unfoldTriplet, unfoldTriplets, start}
+use Rattle.fdoca.proofs.Results.{ok-of, ok-bind, ok-reject}
+use Rattle.fdoca.proofs.Triplets.{tripletsAt, triplets-short, triplets-past, triplets-next}
+use Rattle.fdoca.proofs.Count.{entry, entry?, entries, state, counted, closed-state, lookup-entries, check-triplet}
+use Rattle.plans.specs.Plan.{entryOf, Proper}
+use Rattle.plans.specs.Tied.{groupsIn, groupsAt, Groups, lowerOf, SdaKept}
+use Rattle.triplets.specs.Judged.{Positive, Entered, Agrees, described, rowAtHand, outcome, GoodRow, JudgedISD}
+use Rattle.triplets.specs.Kept.{EntryOf, PutSDA}
+use Rattle.triplets.proofs.Entries.{good-positive, good-id, good-type}
+use Rattle.descriptors.specs.declared.Step.{Step}
+use Rattle.descriptors.specs.Holds.{RefersIn, Placed, Tables, EndsAt, no-head, no-CPT, RowSoFar, AtHand, Current, Last, Holds, Held, ClosedRow, Bare, SteppedSDA, SteppedRLO, SteppedCPT, Advanced}
+use Rattle.descriptors.proofs.Rows.{AllGroups, cpt-groups, cpt-all, own-groups, own-refer}
+use Rattle.descriptors.proofs.Refs.{groups-refer}
+use Rattle.descriptors.proofs.Grow.{tables-put, tables-later}
+
+-- a triplet that is torn
+module _ (d s z e : List ℕ) (p n : ℕ) (x r : Step) (held : Held d s z e p x) (there : p < length d) (en : n ≡ getD d p 0) where
+  torn-at : tripletsAt d p ≡ torn p ∷ [] → Bare 2 r → Advanced d s z e p r
+  unfolding checkTriplets checkTriplet
+  torn-at q b =
+      record {
+        refuses = λ h. held .1 .checking ∙ rw (q, b .numbered);
+        accepts = λ h. absurd (let w : ⊥ = omega (arith, b .numbered) in w);
+        moves = λ h. absurd (let w : ⊥ = omega (arith, b .numbered) in w);
+      }
+
+  pub torn-short : n < 2 → Bare 2 r → Advanced d s z e p r
+  torn-short h b = torn-at (triplets-short d p there (omega arith)) b
+
+  pub torn-past : 2 ≤ n → length d - p < n → Bare 2 r → Advanced d s z e p r
+  torn-past h k b = torn-at (triplets-past d p there (omega arith) (omega arith)) b
+
+-- a whole triplet of n bytes, and what the check and the unfolding come to behind it
+module _ (d s z e : List ℕ) (p n : ℕ) (x : Step) (u : Layouts) (h : Holds d s z e p x u) (there : p < length d) (en : n ≡ getD d p 0)
+    (least : 2 ≤ n) (whole : n ≤ length d - p) where
+  abbrev t : List ℕ
+  t = take n (drop p d)
+
+  next : tripletsAt d p ≡ triplet p t ∷ tripletsAt d (p + n)
+  next = rw en (triplets-next d p there (omega arith) (omega arith))
+
+  pub refused-here : (m : ℕ) → checkTriplet (state u) (triplet p t) ≡ refuse m p → checkTriplets begin (triplets d) ≡ refuse m p
+  unfolding checkTriplets
+  refused-here m q = h .checking ∙ rw (next, q)
+
+  pub checked-on : (v : State) → checkTriplet (state u) (triplet p t) ≡ ok v → v ≡ state (unfoldTriplet u (triplet p t))
+  checked-on v q = ok-of (rw q at (check-triplet u (triplet p t)))
+
+  pub checking-on : (v : State) → checkTriplet (state u) (triplet p t) ≡ ok v
+      → checkTriplets begin (triplets d) ≡ checkTriplets (state (unfoldTriplet u (triplet p t))) (tripletsAt d (p + n))
+  unfolding checkTriplets
+  checking-on v q = h .checking ∙ rw (next, q) (ap (λ w. checkTriplets w (tripletsAt d (p + n))) (checked-on v q))
+
+  pub unfolding-on : unfoldTriplets start (triplets d) ≡ unfoldTriplets (unfoldTriplet u (triplet p t)) (tripletsAt d (p + n))
+  unfolding unfoldTriplets
+  unfolding-on = h .unfolds ∙ rw next
+
+-- what an accepted SDA or RLO tells
+not-known : (ds : List (ℕ × Described)) (i : ℕ) → isDescribed i (entries ds) ≡ false → lookup i ds ≡ none
+not-known ds i h = go (lookup i ds) (sym (ap isSome (lookup-entries i ds)) ∙ h)
+  where
+    go : (o : Option Described) → isSome (entry? o) ≡ false → o ≡ none
+    go none q = refl
+    go (some D) q = absurd (true≢false q)
+
+sda-free : (es : List (ℕ × Entry)) (p : ℕ) (t : List ℕ) (v : State) → checkSDA es p t ≡ ok v → isDescribed (idOf t) es ≡ false
+unfolding checkSDA
+sda-free es p t v q =
+    let a = ok-reject (not (goodLengthSDA t)) 5 p _ v q in
+    let b = ok-reject (not (goodSDA t)) 6 p _ v (a .1) in
+    ok-reject (isDescribed (idOf t) es) 7 p _ v (b .1) .0
+
+rlo-free : (es : List (ℕ × Entry)) (p : ℕ) (t : List ℕ) (v : State) → checkRLO es p t ≡ ok v
+    → (isDescribed (idOf t) es ≡ false) × ((m : ℕ) × (addGroups p es 0 (groupsOf t) ≡ ok m))
+unfolding checkRLO
+rlo-free es p t v q =
+    let a = ok-reject (not (goodLengthRow t)) 5 p _ v q in
+    let b = ok-reject (eqb (idOf t) 0) 6 p _ v (a .1) in
+    let c = ok-reject (isDescribed (idOf t) es) 7 p _ v (b .1) in
+    let g = ok-bind (addGroups p es 0 (groupsOf t)) (λ n. ok (rowAtHand (idOf t) n es)) v (c .1) in
+    (c .0, (g .0, g .1))
+
+cpt-added : (es : List (ℕ × Entry)) (id sum p : ℕ) (t : List ℕ) (v : State) → checkCPT (rowAtHand id sum es) p t ≡ ok v
+    → (m : ℕ) × (addGroups p es sum (groupsOf t) ≡ ok m)
+unfolding checkCPT
+cpt-added es id sum p t v q =
+    let a = ok-reject (not (goodLengthRow t)) 5 p _ v q in
+    let b = ok-reject (not (eqb (idOf t) 0)) 6 p _ v (a .1) in
+    let g = ok-bind (addGroups p es sum (groupsOf t)) (λ n. ok (rowAtHand id n es)) v (b .1) in
+    (g .0, g .1)
+
+-- the size of an SDA
+sda-size : (c l : ℕ) → c ≤ 4096 → ((c + 65536 * l) % 65536 ≡ c) × ((c + 65536 * l) / 65536 ≡ l)
+sda-size c l h = (omega arith, omega arith)
+
+positive-lower : (xs : List ℕ) → 0 < product xs → Positive (C.array xs)
+positive-lower [] h = tt
+positive-lower (y ∷ xs) h = go (product xs) h
+  where
+    go : (k : ℕ) → 0 < y * k → 0 < k
+    go zero q = absurd (let w : y * zero ≡ 0 = mul-zero y in let v : ⊥ = omega arith in v)
+    go (suc k) q = omega arith
+
+-- an entry is not 0
+entry-given : (f : Field) → Proper f → 0 < entryOf f
+unfolding entryOf
+entry-given f w = omega (arith, w .id-given)
+
+-- behind an SDA
+module _ (d s z e s′ z′ e′ : List ℕ) (p n : ℕ) (x r : Step) (u : Layouts) (h : Holds d s z e p x u) (there : p < length d) (en : n ≡ getD d p 0)
+    (least : 2 ≤ n) (whole : n ≤ length d - p) (small : length d ≤ 4096) (s″ z″ e″ : List ℕ) (tb : Tables d s′ z′ e′ (closed u) p)
+    (kind : getD (take n (drop p d)) 1 0 ≡ 0x70) (st : SteppedSDA (take n (drop p d)) p s′ z′ e′ s″ z″ e″ r) where
+  abbrev sda : List ℕ
+  sda = take n (drop p d)
+
+  sda-checked : checkTriplet (state u) (triplet p sda) ≡ checkSDA (entries (closed u)) p sda
+  unfolding checkTriplet checkConstruct
+  sda-checked = rw kind (ap (λ es. checkSDA es p sda) (closed-state u))
+
+  sda-unfolds : (T : FieldType) → typeOf (codeOf sda) ≡ some T
+      → unfoldTriplet u (triplet p sda) ≡ record { described = (idOf sda, array (fieldOf T sda) (extentsOf sda)) ∷ closed u; current = none }
+  unfolding unfoldTriplet unfoldConstruct unfoldSDA
+  sda-unfolds T q = rw (kind, q)
+
+  sda-on : r .number ≡ 0 → Held d s″ z″ e″ (p + n) r
+  sda-on q =
+      let c : checkSDA (entries (closed u)) p sda ≡ ok (described (idOf sda) (extentsOf sda) (entries (closed u))) = st .accepts (entries (closed u)) (tb .agrees) q in
+      let w : PutSDA sda p s′ z′ e′ s″ z″ e″ = st .puts q in
+      let g : goodSDA sda ≡ true = st .good q in
+      let ty = good-type sda g in
+      let f : Field = fieldOf (ty .0) sda in
+      let xs : List ℕ = extentsOf sda in
+      let v : Layouts = record { described = (idOf sda, array f xs) ∷ closed u; current = none } in
+      let ev : unfoldTriplet u (triplet p sda) ≡ v = sda-unfolds (ty .0) (ty .1) in
+      let free : lookup (idOf sda) (closed u) ≡ none = not-known (closed u) (idOf sda) (sda-free (entries (closed u)) p sda _ c) in
+      let tl = st .told q in
+      let few : product xs ≤ 4096 = rw (tl .2) at (st .small) in
+      let sz = sda-size (product xs) (lowerOf xs) few in
+      let pr : Proper f = w .is-entry .proper (ty .0) (good-id sda g) in
+      let ee : w .entry ≡ entryOf f = w .is-entry .same (ty .0) (ty .1) in
+      let sized : Entered p (product xs + 65536 * lowerOf xs) (entry (array f xs)) =
+      record { here = λ k. omega arith; count = sz .0; lower = sz .1; positive = positive-lower xs (good-positive sda g) } in
+      let le : getD (set e′ (idOf sda) (w .entry)) (idOf sda) 0 ≡ w .entry = getD-set-same e′ (idOf sda) (w .entry) 0 (omega (arith, w .id-fits, tb .sizes .2)) in
+      let lz : getD (set z′ (idOf sda) (product xs + 65536 * lowerOf xs)) (idOf sda) 0 ≡ product xs + 65536 * lowerOf xs =
+      getD-set-same z′ (idOf sda) (product xs + 65536 * lowerOf xs) 0 (omega (arith, w .id-fits, tb .sizes .1)) in
+      let kept : SdaKept (set z′ (idOf sda) (product xs + 65536 * lowerOf xs)) (set e′ (idOf sda) (w .entry)) (idOf sda) f xs =
+      record { entry = le ∙ ee; marked = rw (le, ee) (entry-given f pr); proper = pr; count = rw lz (sz .0); lower = rw lz (sz .1) } in
+      let tb′ : Tables d (set s′ (idOf sda) p) (set z′ (idOf sda) (product xs + 65536 * lowerOf xs)) (set e′ (idOf sda) (w .entry)) ((idOf sda, array f xs) ∷ closed u) (p + n) =
+      tables-put d s′ z′ e′ (closed u) p tb (idOf sda) p (product xs + 65536 * lowerOf xs) (w .entry) (array f xs) free (w .id-fits) (p + n) (omega arith) (omega arith) sized kept in
+      let k : Holds d s″ z″ e″ (p + n) r v =
+      record {
+        checking = rw ev at (checking-on d s z e p n x u h there en least whole _ (sda-checked ∙ c));
+        unfolds = rw ev at (unfolding-on d s z e p n x u h there en least whole);
+        tables = rw (w .positions, w .sizes, w .entries) tb′;
+        current = tl .0;
+        last = (tl .1, λ y. good-id sda g (sym (tl .1) ∙ y), tl .2 ∙ sym (length-replicate (product xs) f));
+        small = st .small;
+        id-fits = rw (tl .1) (w .id-fits);
+        there = omega arith;
+      } in
+      (v, k)
+
+  pub sda-moved : Advanced d s″ z″ e″ p r
+  sda-moved =
+      record {
+        refuses = λ q. refused-here d s z e p n x u h there en least whole (r .number) (sda-checked ∙ st .refuses (entries (closed u)) (tb .agrees) q);
+        accepts = λ q. rw en at (sda-on q);
+        moves = λ q. omega arith;
+      }
+
+-- the count of a row at hand
+abbrev countIn : Option (ℕ × ℕ) → ℕ
+countIn none = 0
+countIn (some q) = q .1
+
+-- behind an RLO
+module _ (d s z e s′ z′ e′ : List ℕ) (p n : ℕ) (x r : Step) (u : Layouts) (h : Holds d s z e p x u) (there : p < length d) (en : n ≡ getD d p 0)
+    (least : 2 ≤ n) (whole : n ≤ length d - p) (tb : Tables d s′ z′ e′ (closed u) p)
+    (kind : getD (take n (drop p d)) 1 0 ≡ 0x71) (st : SteppedRLO (take n (drop p d)) p s′ z′ r) where
+  abbrev rlo : List ℕ
+  rlo = take n (drop p d)
+
+  rlo-checked : checkTriplet (state u) (triplet p rlo) ≡ checkRLO (entries (closed u)) p rlo
+  unfolding checkTriplet checkConstruct
+  rlo-checked = rw kind (ap (λ es. checkRLO es p rlo) (closed-state u))
+
+  abbrev made : List Field
+  made = addFields (closed u) [] (groupsOf rlo)
+
+  rlo-unfolds : unfoldTriplet u (triplet p rlo) ≡ record { described = closed u; current = some (idOf rlo, made) }
+  unfolding unfoldTriplet unfoldConstruct unfoldRLO
+  rlo-unfolds = rw kind
+
+  rlo-on : r .number ≡ 0 → Held d s′ z′ e′ (p + n) r
+  unfolding groupsAt
+  rlo-on q =
+      let c : checkRLO (entries (closed u)) p rlo ≡ ok (rowAtHand (idOf rlo) (r .count) (entries (closed u))) = st .accepts (entries (closed u)) (tb .agrees) q in
+      let v : Layouts = record { described = closed u; current = some (idOf rlo, made) } in
+      let a = rlo-free (entries (closed u)) p rlo _ c in
+      let free : lookup (idOf rlo) (closed u) ≡ none = not-known (closed u) (idOf rlo) (a .0) in
+      let gd : GoodRow rlo = st .good q in
+      let sz : length rlo ≡ n = length-take-le n (drop p d) (omega (arith, length-drop p d)) in
+      let fits : p + n ≤ length d = omega arith in
+      let refs : AllGroups (RefersIn s′ (closed u) p) (groupsOf rlo) =
+      groups-refer s′ (closed u) p p 0 (a .1 .0) (groupsOf rlo) (λ i D k. let w : Placed d s′ z′ e′ (closed u) p i D = tb .placed i D k in (w .before, w .id-fits)) (a .1 .1) in
+      let tl = st .told q in
+      let same : rowAtHand (idOf rlo) (r .count) (entries (closed u)) ≡ state v =
+      rw rlo-unfolds at (checked-on d s z e p n x u h there en least whole _ (rlo-checked ∙ c)) in
+      let cn : r .count ≡ length made = ap (λ (w : State). countIn (w .current)) same in
+      let six : 6 ≤ n = omega (arith, gd .some-there) in
+      let far : RowSoFar d s′ (closed u) (p + n) p made =
+      record {
+        head = omega arith;
+        before = omega arith;
+        groups = groupsOf rlo;
+        fields = refl;
+        all = rw (← en) (own-groups d p n fits gd);
+        rest = λ g. rw (← en) (own-refer d p n fits gd (RefersIn s′ (closed u) p) refs g);
+      } in
+      let hand : AtHand d s′ (closed u) (p + n) r (idOf rlo) made =
+      record {
+        at-hand = tl .0;
+        same-id = tl .1;
+        free = free;
+        earlier = λ i D k. rw (tl .2) (tb .placed i D k .before);
+        so-far = rw (tl .2) far;
+      } in
+      let k : Holds d s′ z′ e′ (p + n) r v =
+      record {
+        checking = rw rlo-unfolds at (checking-on d s z e p n x u h there en least whole _ (rlo-checked ∙ c));
+        unfolds = rw rlo-unfolds at (unfolding-on d s z e p n x u h there en least whole);
+        tables = tables-later d s′ z′ e′ (closed u) p (p + n) (omega arith) tb;
+        current = hand;
+        last = (tl .1, λ y. st .id-given q .0 (sym (tl .1) ∙ y), cn);
+        small = st .small;
+        id-fits = rw (tl .1) (st .id-given q .1);
+        there = fits;
+      } in
+      (v, k)
+
+  pub rlo-moved : Advanced d s′ z′ e′ p r
+  rlo-moved =
+      record {
+        refuses = λ q. refused-here d s z e p n x u h there en least whole (r .number) (rlo-checked ∙ st .refuses (entries (closed u)) (tb .agrees) q);
+        accepts = λ q. rw en at (rlo-on q);
+        moves = λ q. omega arith;
+      }
+
+-- the groups of two triplets, one behind the other
+add-append : (ds : List (ℕ × Described)) (l : List Field) (gs hs : List Group) → addFields ds (addFields ds l gs) hs ≡ addFields ds l (gs ++ hs)
+unfolding addFields
+add-append ds l [] hs = refl
+add-append ds l (g ∷ gs) hs = add-append ds (l ++ groupFields ds g) gs hs
+
+-- behind a CPT
+module _ (d s z e : List ℕ) (p n : ℕ) (x r : Step) (u : Layouts) (h : Holds d s z e p x u) (there : p < length d) (en : n ≡ getD d p 0)
+    (least : 2 ≤ n) (whole : n ≤ length d - p) (kind : getD (take n (drop p d)) 1 0 ≡ 0x7F) (st : SteppedCPT (take n (drop p d)) s z x r) where
+  abbrev cpt : List ℕ
+  cpt = take n (drop p d)
+
+  cpt-checked : checkTriplet (state u) (triplet p cpt) ≡ checkCPT (state u) p cpt
+  unfolding checkTriplet checkConstruct
+  cpt-checked = rw kind
+
+  cpt-alone : u .current ≡ none → checkCPT (state u) p cpt ≡ refuse 4 p
+  unfolding checkCPT
+  cpt-alone q = rw q
+
+  cpt-unfolds : (c : ℕ × List Field) → u .current ≡ some c
+      → unfoldTriplet u (triplet p cpt) ≡ record { described = u .described; current = some (c .0, addFields (u .described) (c .1) (groupsOf cpt)) }
+  unfolding unfoldTriplet unfoldConstruct unfoldCPT
+  cpt-unfolds c q = rw (kind, q)
+
+  cpt-state : (c : ℕ × List Field) → u .current ≡ some c → x .count ≡ length (c .1) → state u ≡ rowAtHand (c .0) (x .count) (entries (u .described))
+  cpt-state c q k = rw (q, k)
+
+  cpt-refuses : (o : Option (ℕ × List Field)) → u .current ≡ o → Current d s (u .described) p x o → Last x (closeRow (u .described) o)
+      → r .number ≢ 0 → checkTriplets begin (triplets d) ≡ refuse (r .number) p
+  cpt-refuses none q c l k =
+      refused-here d s z e p n x u h there en least whole (r .number) (cpt-checked ∙ cpt-alone q ∙ ap (λ m. refuse m p) (sym (st .no-row c)))
+  cpt-refuses (some c) q a l k =
+      refused-here d s z e p n x u h there en least whole (r .number)
+      (cpt-checked ∙ rw (cpt-state c q (l .2)) (st .refuses p (c .0) (entries (u .described)) (h .tables .agrees) (a .at-hand) k))
+
+  cpt-on : (o : Option (ℕ × List Field)) → u .current ≡ o → Current d s (u .described) p x o → Last x (closeRow (u .described) o)
+      → r .number ≡ 0 → Held d s z e (p + n) r
+  unfolding groupsAt
+  cpt-on none q c l k = absurd (let w : r .number ≡ 4 = st .no-row c in let y : ⊥ = omega arith in y)
+  cpt-on (some c) q a l k =
+      let ds : List (ℕ × Described) = u .described in
+      let es : List (ℕ × Entry) = entries ds in
+      let acc : checkCPT (rowAtHand (c .0) (x .count) es) p cpt ≡ ok (rowAtHand (c .0) (r .count) es) = st .accepts p (c .0) es (h .tables .agrees) (a .at-hand) k in
+      let gr = cpt-added es (c .0) (x .count) p cpt _ acc in
+      let made′ : List Field = addFields ds (c .1) (groupsOf cpt) in
+      let v : Layouts = record { described = ds; current = some (c .0, made′) } in
+      let ev : unfoldTriplet u (triplet p cpt) ≡ v = cpt-unfolds c q in
+      let whole-check : checkTriplet (state u) (triplet p cpt) ≡ ok (rowAtHand (c .0) (r .count) es) = cpt-checked ∙ rw (cpt-state c q (l .2)) acc in
+      let same : rowAtHand (c .0) (r .count) es ≡ state v = rw ev at (checked-on d s z e p n x u h there en least whole _ whole-check) in
+      let cn : r .count ≡ length made′ = ap (λ (w : State). countIn (w .current)) same in
+      let gd : GoodRow cpt = st .good k in
+      let sz : length cpt ≡ n = length-take-le n (drop p d) (omega (arith, length-drop p d)) in
+      let fits : p + n ≤ length d = omega arith in
+      let six : 6 ≤ n = omega (arith, gd .some-there) in
+      let tl = st .told k in
+      let far : RowSoFar d s ds p (x .at) (c .1) = a .so-far in
+      let refs : AllGroups (RefersIn s ds (x .at)) (groupsOf cpt) =
+      groups-refer s ds p (x .at) (x .count) (gr .0) (groupsOf cpt) (λ i D w. (a .earlier i D w, h .tables .placed i D w .id-fits)) (gr .1) in
+      let head-is : getD d (p + 1) 0 ≡ 0x7F = sym (getD-take n (drop p d) 1 0 (omega arith) ∙ getD-drop p d 1 0) ∙ kind in
+      let far′ : RowSoFar d s ds (p + n) (x .at) made′ =
+      record {
+        head = far .head;
+        before = omega (arith, far .before);
+        groups = far .groups ++ groupsOf cpt;
+        fields = rw (far .fields) (add-append ds [] (far .groups) (groupsOf cpt));
+        all = far .all ∙ rw (cpt-groups d p (omega arith) head-is, ← en, own-groups d p n fits gd) (sym (append-assoc (far .groups) (groupsOf cpt) (groupsIn 0 (drop (p + n) d))));
+        rest = λ g. far .rest (cpt-all d p (omega arith) head-is (RefersIn s ds (x .at)) (rw (← en) (own-refer d p n fits gd (RefersIn s ds (x .at)) refs g)));
+      } in
+      let hand : AtHand d s ds (p + n) r (c .0) made′ =
+      record {
+        at-hand = tl .0;
+        same-id = tl .1 ∙ a .same-id;
+        free = a .free;
+        earlier = λ i D w. rw (tl .2) (a .earlier i D w);
+        so-far = rw (tl .2) far′;
+      } in
+      let y : Holds d s z e (p + n) r v =
+      record {
+        checking = rw ev at (checking-on d s z e p n x u h there en least whole _ whole-check);
+        unfolds = rw ev at (unfolding-on d s z e p n x u h there en least whole);
+        tables = tables-later d s z e ds p (p + n) (omega arith) (h .tables);
+        current = hand;
+        last = (tl .1 ∙ a .same-id, λ w. l .1 (sym (tl .1) ∙ w), cn);
+        small = st .small;
+        id-fits = rw (tl .1) (h .id-fits);
+        there = fits;
+      } in
+      (v, y)
+
+  pub cpt-moved : Advanced d s z e p r
+  cpt-moved =
+      record {
+        refuses = λ q. cpt-refuses (u .current) refl (h .current) (h .last) q;
+        accepts = λ q. rw en at (cpt-on (u .current) refl (h .current) (h .last) q);
+        moves = λ q. omega arith;
+      }
+
+-- nothing is described before the first triplet
+module _ (d s z e : List ℕ) (x : Step) (u : Layouts) (h : Holds d s z e 0 x u) where
+  first-described : u .described ≡ []
+  first-described = go (u .described) (h .tables)
+    where
+      go : (ds : List (ℕ × Described)) → Tables d s z e ds 0 → ds ≡ []
+      go [] t = refl
+      go ((i, D) ∷ ds) t =
+          let f : eqb i i ≡ true = eq-eqb i i refl in
+          let w : Placed d s z e ((i, D) ∷ ds) 0 i D = t .placed i D (rw f) in
+          absurd (let y : ⊥ = omega (arith, w .before) in y)
+
+  first-current : u .current ≡ none
+  first-current = go (u .current) (h .current)
+    where
+      go : (o : Option (ℕ × List Field)) → Current d s (u .described) 0 x o → o ≡ none
+      go none c = refl
+      go (some r) c = absurd (let y : ⊥ = omega (arith, c .so-far .before) in y)
+
+-- behind an ISD
+module _ (d s z e s′ z′ e′ : List ℕ) (p n m : ℕ) (x r : Step) (u : Layouts) (h : Holds d s z e p x u) (there : p < length d) (en : n ≡ getD d p 0)
+    (least : 2 ≤ n) (whole : n ≤ length d - p) (tb : Tables d s′ z′ e′ (closed u) p)
+    (kind : getD (take n (drop p d)) 1 0 ≡ 0x7E) (j : JudgedISD (take n (drop p d)) p m) (b : Bare m r) where
+  abbrev isd : List ℕ
+  isd = take n (drop p d)
+
+  isd-checked : checkTriplet (state u) (triplet p isd) ≡ checkISD (state u) p isd
+  unfolding checkTriplet checkConstruct
+  isd-checked = rw kind
+
+  isd-unfolds : unfoldTriplet u (triplet p isd) ≡ u
+  unfolding unfoldTriplet unfoldConstruct
+  isd-unfolds = rw kind
+
+  isd-first : checkISD (state u) p isd ≡ ok (state u) → p ≡ 0
+  unfolding checkISD
+  isd-first q = go (eqb p 0) refl (ok-reject (not (eqb p 0)) 4 p _ (state u) q .0)
+    where
+      go : (c : Bool) → eqb p 0 ≡ c → not c ≡ false → p ≡ 0
+      go true f k = eqb-true p 0 f
+      go false f k = absurd (true≢false k)
+
+  isd-on : m ≡ 0 → Held d s′ z′ e′ (p + n) r
+  unfolding outcome
+  isd-on q =
+      let acc : checkISD (state u) p isd ≡ ok (state u) = j .result (state u) ∙ simp (eq-eqb m 0 q) in
+      let z₀ : p ≡ 0 = isd-first acc in
+      let h₀ : Holds d s z e 0 x u = rw z₀ at h in
+      let ec : u .current ≡ none = first-current d s z e x u h₀ in
+      let ed : u .described ≡ [] = first-described d s z e x u h₀ in
+      let cl : closed u ≡ u .described = rw ec in
+      let k : Holds d s′ z′ e′ (p + n) r u =
+      record {
+        checking = rw isd-unfolds at (checking-on d s z e p n x u h there en least whole _ (isd-checked ∙ acc));
+        unfolds = rw isd-unfolds at (unfolding-on d s z e p n x u h there en least whole);
+        tables = tables-later d s′ z′ e′ (u .described) p (p + n) (omega arith) (rw cl at tb);
+        current = rw ec (b .no-row);
+        last = rw (cl, ed) (b .no-id);
+        small = omega (arith, b .no-count);
+        id-fits = omega (arith, b .no-id);
+        there = omega arith;
+      } in
+      (u, k)
+
+  pub isd-moved : Advanced d s′ z′ e′ p r
+  unfolding outcome
+  isd-moved =
+      record {
+        refuses = λ q. refused-here d s z e p n x u h there en least whole (r .number)
+            (isd-checked ∙ j .result (state u) ∙ rw (b .numbered) (simp (ne-eqb m 0 (λ k. q (b .numbered ∙ k)))));
+        accepts = λ q. rw en at (isd-on (sym (b .numbered) ∙ q));
+        moves = λ q. omega arith;
+      }
+
+-- a construct that is not carried
+pub other-moved : (d s z e s′ z′ e′ : List ℕ) (p n : ℕ) (x r : Step) (u : Layouts) → Holds d s z e p x u → p < length d → n ≡ getD d p 0 → 2 ≤ n
+    → n ≤ length d - p → constructOf (take n (drop p d)) ≡ none → Bare 3 r → Advanced d s′ z′ e′ p r
+unfolding checkTriplet checkConstruct
+other-moved d s z e s′ z′ e′ p n x r u h there en least whole q b =
+    record {
+      refuses = λ k. refused-here d s z e p n x u h there en least whole (r .number) (rw (q, b .numbered));
+      accepts = λ k. absurd (let w : ⊥ = omega (arith, b .numbered) in w);
+      moves = λ k. absurd (let w : ⊥ = omega (arith, b .numbered) in w);
+    }

@@ -1,0 +1,67 @@
+-- What an accepted group refers to: one of the described ids, whose triplet stands before.
+-- Assumes nothing.
+use mathlib.Core.Path.{_≡_, refl, sym, ap, _∙_}
+use mathlib.Core.Logic.{_≢_}
+use Prim.Native.Nat.{ℕ, zero, suc, _+_, _*_, _≤_, _<_}
+use native.Mathlib.Omega.{arith}
+use mathlib.Core.Bool.{Bool, true, false}
+use mathlib.Core.List.{List, [], _∷_}
+use mathlib.Core.Option.{Option, none, some}
+use lib.Dec.{ltb, eqb}
+use lib.ListN.{length, getD}
+use borrow.Author.Tests.{eqb-false}
+use Rattle.fdoca.specs.Basics.{lookup, Result, refuse, ok, _>>=_, _>>_, reject, the}
+use Rattle.fdoca.specs.Triplet.{Group}
+use Rattle.fdoca.specs.Item.{Field}
+use Rattle.fdoca.specs.Check.{maxItems, countTaken, addGroup, addGroups}
+use Rattle.fdoca.specs.Check as C
+use Rattle.fdoca.specs.Unfolding.{Described, array, row}
+use Rattle.fdoca.proofs.Results.{ok-bind, ok-reject}
+use Rattle.fdoca.proofs.Count.{entry, entry?, entries, lookup-entries}
+use Rattle.plans.specs.Tied.{Takes, all, some-of}
+use Rattle.descriptors.specs.Holds.{RefersIn}
+use Rattle.descriptors.proofs.Rows.{AllGroups}
+
+-- elements taken that are carried
+takes-of : (k n : ℕ) (D : Described) → countTaken k (entry D) ≡ some n → Takes k D
+takes-of zero n D e = all
+takes-of (suc k) n (array f []) e = absurd (let z : _≡_ {A = ℕ} 0 1 = cc in let w : ⊥ = omega arith in w)
+takes-of (suc k) n (array f (x ∷ xs)) e = some-of
+takes-of (suc k) n (row l) e = absurd (let z : _≡_ {A = ℕ} 0 1 = cc in let w : ⊥ = omega arith in w)
+
+-- a group that was added
+record Added (g : Group) (x : Option Described) : Type 0 where
+  to : Described
+  found : x ≡ some to
+  repeats : 0 < g .factor
+  takes : Takes (g .taken) to
+
+group-added : (p n m : ℕ) (g : Group) (x : Option Described) → addGroup p n g (entry? x) ≡ ok m → Added g x
+unfolding addGroup
+group-added p n m g none e = absurd (let z : _≡_ {A = ℕ} 0 1 = cc in let w : ⊥ = omega arith in w)
+group-added p n m g (some D) e =
+    let a = ok-reject (eqb (g .factor) 0) 9 p (the (countTaken (g .taken) (entry D)) 9 p >>= (λ k. reject (ltb maxItems (n + g .factor * k)) 10 p >> ok (n + g .factor * k))) m e in
+    let b = ok-bind (the (countTaken (g .taken) (entry D)) 9 p) (λ k. reject (ltb maxItems (n + g .factor * k)) 10 p >> ok (n + g .factor * k)) m (a .1) in
+    record { to = D; found = refl; repeats = positive (g .factor) (eqb-false (g .factor) 0 (a .0)); takes = takes-of (g .taken) (b .0) D (the-some (countTaken (g .taken) (entry D)) (b .0) (b .1)) }
+  where
+    positive : (k : ℕ) → (k ≡ 0 → ⊥) → 0 < k
+    positive zero h = absurd (h refl)
+    positive (suc k) h = omega arith
+
+    the-some : (o : Option ℕ) (k : ℕ) → the o 9 p ≡ ok k → o ≡ some k
+    the-some none k q = absurd (let z : _≡_ {A = ℕ} 0 1 = cc in let w : ⊥ = omega arith in w)
+    the-some (some y) k q = cc
+
+-- The groups of a triplet at p, where they are accepted, each refer to an id described before; the positions of these are below q.
+pub groups-refer : (s : List ℕ) (ds : List (ℕ × Described)) (p q n m : ℕ) (gs : List Group)
+    → ((i : ℕ) (D : Described) → lookup i ds ≡ some D → (getD s i 0 < q) × (i < 256))
+    → addGroups p (entries ds) n gs ≡ ok m → AllGroups (RefersIn s ds q) gs
+unfolding addGroups
+groups-refer s ds p q n m [] t h = tt
+groups-refer s ds p q n m (g ∷ gs) t h =
+    let a = ok-bind (addGroup p n g (lookup (g .ref) (entries ds))) (λ k. addGroups p (entries ds) k gs) m h in
+    let b : Added g (lookup (g .ref) ds) = group-added p n (a .0) g (lookup (g .ref) ds) (sym (ap (addGroup p n g) (lookup-entries (g .ref) ds)) ∙ a .1) in
+    let w = t (g .ref) (b .to) (b .found) in (
+      record { to = b .to; known = b .found; back = w .0; id-fits = w .1; repeats = b .repeats; takes = b .takes },
+      groups-refer s ds p q (a .0) m gs t (a .2),
+    )

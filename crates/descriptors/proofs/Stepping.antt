@@ -1,0 +1,131 @@
+-- The steps over an SDA, an RLO and a CPT, from what judging them gave.
+-- Assumes nothing.
+use mathlib.Core.Path.{_≡_, refl, sym, ap, _∙_, subst}
+use mathlib.Core.Logic.{_≢_}
+use Prim.Native.Nat.{ℕ, _≤_, _<_}
+use native.Mathlib.Omega.{arith}
+use mathlib.Core.Bool.{Bool, true, false, true≢false}
+use mathlib.Core.List.{List}
+use lib.ListN.{length, getD}
+use borrow.Author.Tests.{eq-eqb, ne-eqb}
+use Rattle.fdoca.specs.Basics.{product, Result, refuse, ok}
+use Rattle.fdoca.specs.Triplet.{idOf, extentsOf}
+use Rattle.fdoca.specs.Check.{goodLengthSDA, goodSDA}
+use Rattle.triplets.specs.declared.Sum.{Sum}
+use Rattle.triplets.specs.Judged.{outcome, Agrees, JudgedSDA, JudgedRLO, JudgedCPT, GoodRow}
+use Rattle.triplets.specs.Kept.{PutSDA}
+use Rattle.triplets.proofs.Sda.{at-least-12}
+use Rattle.descriptors.specs.declared.Step.{Step}
+use Rattle.descriptors.specs.Holds.{Bare, SteppedSDA, SteppedRLO, SteppedCPT}
+
+refusing : {A : Type 0} (n m p : ℕ) (a : A) (x : Result A) → x ≡ outcome n p a → m ≡ n → m ≢ 0 → x ≡ refuse m p
+unfolding outcome
+refusing n m p a x e q h = e ∙ simp (← q, ne-eqb m 0 h)
+
+accepting : {A : Type 0} (n p : ℕ) (a : A) (x : Result A) → x ≡ outcome n p a → n ≡ 0 → x ≡ ok a
+unfolding outcome
+accepting n p a x e q = e ∙ simp (eq-eqb n 0 q)
+
+never : {A : Type 0} {n m : ℕ} → n ≡ m → m ≢ 0 → n ≡ 0 → A
+never e h z = absurd (h (sym e ∙ z))
+
+module _ (t s : List ℕ) (j : Sum) (y : JudgedSDA t s j) where
+  pub sda-refused : (z e : List ℕ) (p : ℕ) (r : Step) → (j .number ≡ 0 → ⊥) → Bare (j .number) r → SteppedSDA t p s z e s z e r
+  sda-refused z e p r h b =
+      record {
+        refuses = λ es a q. refusing (j .number) (r .number) p _ _ (y .result p z es a) (b .numbered) q;
+        accepts = λ es a q. never (b .numbered) h q;
+        puts = λ q. never (b .numbered) h q;
+        good = λ q. never (b .numbered) h q;
+        told = λ q. never (b .numbered) h q;
+        small = omega (arith, b .no-count);
+      }
+
+  module _ (h : j .number ≡ 0) where
+    pub judged-length : goodLengthSDA t ≡ true
+    judged-length = y .length-good h
+
+    pub judged-good : goodSDA t ≡ true
+    judged-good = y .good h
+
+    pub judged-count : j .count ≡ product (extentsOf t)
+    judged-count = y .count h
+
+    pub judged-small : j .count ≤ 4096
+    judged-small = y .small
+
+    pub judged-id : 2 < length t
+    judged-id = omega (arith, at-least-12 t judged-length)
+
+    pub sda-put : (z e s′ z′ e′ : List ℕ) (p : ℕ) (r : Step) → PutSDA t p s z e s′ z′ e′
+        → r ≡ record { number = 0; row = false; id = getD t 2 0; at = p; count = j .count } → SteppedSDA t p s z e s′ z′ e′ r
+    sda-put z e s′ z′ e′ p r w q =
+        record {
+          refuses = λ es a n. absurd (n (rw q));
+          accepts = λ es a n. accepting (j .number) p _ _ (y .result p z es a) h;
+          puts = λ n. w;
+          good = λ n. judged-good;
+          told = λ n. (rw q, rw q, rw q judged-count);
+          small = rw q judged-small;
+        }
+
+module _ (t s z : List ℕ) (j : Sum) (y : JudgedRLO t s z j) (p : ℕ) (r : Step) where
+  pub rlo-refused : (j .number ≡ 0 → ⊥) → Bare (j .number) r → SteppedRLO t p s z r
+  rlo-refused h b =
+      record {
+        refuses = λ es a q. refusing (j .number) (r .number) p _ _ (y .result p es a) (b .numbered) q;
+        accepts = λ es a q. never (b .numbered) h q;
+        told = λ q. never (b .numbered) h q;
+        good = λ q. never (b .numbered) h q;
+        id-given = λ q. never (b .numbered) h q;
+        small = omega (arith, b .no-count);
+      }
+
+  pub rlo-opened : j .number ≡ 0 → r ≡ record { number = 0; row = true; id = getD t 2 0; at = p; count = j .count } → SteppedRLO t p s z r
+  rlo-opened h q =
+      record {
+        refuses = λ es a n. absurd (n (rw q));
+        accepts = λ es a n. rw q (accepting (j .number) p _ _ (y .result p es a) h);
+        told = λ n. (rw q, rw q, rw q);
+        good = λ n. y .good h;
+        id-given = λ n. y .id-given h;
+        small = rw q (y .small);
+      }
+
+pub row-judged : (t s z : List ℕ) (j : Sum) → JudgedRLO t s z j → j .number ≡ 0 → 2 < length t
+row-judged t s z j y h = omega (arith, y .good h .some-there)
+
+module _ (t s z : List ℕ) (x r : Step) where
+  pub cpt-alone : x .row ≡ false → Bare 4 r → SteppedCPT t s z x r
+  cpt-alone h b =
+      record {
+        no-row = λ q. b .numbered;
+        refuses = λ p id es a q n. absurd (true≢false (sym q ∙ h));
+        accepts = λ p id es a q n. absurd (true≢false (sym q ∙ h));
+        told = λ n. never (b .numbered) (λ k. omega arith) n;
+        good = λ n. never (b .numbered) (λ k. omega arith) n;
+        small = omega (arith, b .no-count);
+      }
+
+  module _ (j : Sum) (y : JudgedCPT t s z (x .count) j) (h : x .row ≡ true) where
+    pub cpt-refused : (j .number ≡ 0 → ⊥) → Bare (j .number) r → SteppedCPT t s z x r
+    cpt-refused k b =
+        record {
+          no-row = λ q. absurd (true≢false (sym h ∙ q));
+          refuses = λ p id es a q n. refusing (j .number) (r .number) p _ _ (y .result p id es a) (b .numbered) n;
+          accepts = λ p id es a q n. never (b .numbered) k n;
+          told = λ n. never (b .numbered) k n;
+          good = λ n. never (b .numbered) k n;
+          small = omega (arith, b .no-count);
+        }
+
+    pub cpt-continued : j .number ≡ 0 → r ≡ record { number = 0; row = true; id = x .id; at = x .at; count = j .count } → SteppedCPT t s z x r
+    cpt-continued k q =
+        record {
+          no-row = λ n. absurd (true≢false (sym h ∙ n));
+          refuses = λ p id es a m n. absurd (n (rw q));
+          accepts = λ p id es a m n. rw q (accepting (j .number) p _ _ (y .result p id es a) k);
+          told = λ n. (rw q, rw q, rw q);
+          good = λ n. y .good k;
+          small = rw q (y .small);
+        }

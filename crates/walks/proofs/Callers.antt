@@ -1,0 +1,105 @@
+-- What a caller knows of the notes of a walk over a plan's fields, and of a found item.
+-- Assumes nothing.
+use Prim.Native.Nat.{ℕ, zero, suc, _+_, _/_, _%_, _≤_}
+use mathlib.Core.Path.{_≡_, refl, sym, ap, _∙_}
+use mathlib.Core.List.{List, [], _∷_, map}
+use mathlib.Core.Option.{Option, none, some}
+use native.Mathlib.Omega.{arith}
+use lib.ListN.{length, take, drop, getElem?, length-map}
+use Rattle.fdoca.specs.declared.State.{State}
+use Rattle.fdoca.specs.Basics.{Result, refuse, ok, the}
+use Rattle.fdoca.specs.Item.{Field}
+use Rattle.fdoca.specs.Walk.{Note, itemLength, walk}
+use Rattle.fdoca.specs.Calls.{stateOf, lent}
+use Rattle.fdoca.proofs.Results.{IfOk, none-owed, holds, bind-all, itself}
+use Rattle.fdoca.proofs.Cover.{sum, positions, lengths, walk-covers}
+use Rattle.plans.specs.Plan.{entryOf, Proper, Planned, empty, entry}
+use Rattle.walks.specs.declared.Found.{Found}
+use Rattle.walks.specs.Marks.{Noted, nothing, item}
+use Rattle.walks.specs.Finding.{foundOf, itemOf}
+use Rattle.walks.proofs.Parts.{code-part}
+
+planned-length : {es : List ℕ} {fs : List Field} → Planned es fs → length es ≡ length fs
+planned-length empty = refl
+planned-length (entry h p) = ap suc (planned-length p)
+
+proper-notes : (es : List ℕ) (ns : List Note) → Planned es (map (λ i. i .field) ns) → Noted ns
+proper-notes es [] p = nothing
+proper-notes (e ∷ es) (n ∷ ns) (entry h p) = item h (proper-notes es ns p)
+
+-- the notes of a good block: as many as the plan has entries, and of proper fields
+module _ (es : List ℕ) (fs : List Field) (s : List ℕ) (ns : List Note) (p : Planned es fs) (e : walk fs s ≡ ok ns) where
+  pub as-many : length ns ≡ length es
+  as-many = sym (length-map ns (λ i. i .field)) ∙ ap length (walk-covers fs s ns e .fields) ∙ sym (planned-length p)
+
+  pub all-noted : Noted ns
+  all-noted = proper-notes es ns (rw (walk-covers fs s ns e .fields) p)
+
+-- an item that is found lies within the data, and its field is proper
+record Sound (s : List ℕ) (n : Note) : Type 0 where
+  inside : n .start + itemLength n ≤ length s
+  proper : Proper (n .field)
+
+item-inside : (p : ℕ) (ns : List Note) (k : ℕ) (n : Note) → map (λ i. i .start) ns ≡ positions p (lengths ns) → getElem? ns k ≡ some n → n .start + itemLength n ≤ p + sum (lengths ns)
+item-inside p [] k n h e = absurd (let z : _≡_ {A = ℕ} 0 1 = cc in let o : ⊥ = omega arith in o)
+item-inside p (x ∷ ns) zero n h e =
+    let a : x ≡ n = cc in
+    let b : x .start ≡ p = cc in
+    rw (← a) (omega arith)
+item-inside p (x ∷ ns) (suc k) n h e =
+    let a : map (λ i. i .start) ns ≡ positions (p + itemLength x) (lengths ns) = cc in
+    let b : n .start + itemLength n ≤ p + itemLength x + sum (lengths ns) = item-inside (p + itemLength x) ns k n a e in
+    omega arith
+
+item-proper : {ns : List Note} → Noted ns → (k : ℕ) (n : Note) → getElem? ns k ≡ some n → Proper (n .field)
+item-proper nothing k n e = absurd (let z : _≡_ {A = ℕ} 0 1 = cc in let o : ⊥ = omega arith in o)
+item-proper (item {n = x} h t) zero n e = let a : x ≡ n = cc in rw (← a) h
+item-proper (item h t) (suc k) n e = item-proper t k n e
+
+one-of : (s : List ℕ) (o : Option Note) → ((n : Note) → o ≡ some n → Sound s n) → IfOk (Sound s) (the o 17 0)
+one-of s none f = none-owed
+one-of s (some n) f = holds (f n refl)
+
+sound : (es : List ℕ) (fs : List Field) (s : List ℕ) (k : ℕ) → Planned es fs → IfOk (Sound s) (itemOf fs s k)
+unfolding itemOf
+sound es fs s k p =
+    bind-all (walk fs s) (itself (walk fs s))
+    (λ ns e. one-of s (getElem? ns k)
+    (λ n q. record {
+      inside = let w = walk-covers fs s ns e in omega (arith, item-inside 0 ns k n (w .starts) q, w .total);
+      proper = item-proper (all-noted es fs s ns p e) k n q;
+    }))
+
+inside-of : (s : List ℕ) (x : Result Note) → IfOk (Sound s) x → foundOf x .start + foundOf x .prefix + foundOf x .value ≤ length s
+unfolding foundOf
+inside-of s (refuse n p) h = omega arith
+inside-of s (ok n) (holds h) = omega (arith, h .inside)
+
+-- the answers of the calls for one item, by what was found
+abbrev pub stateFound : Found → State
+stateFound r = record { number = r .number; place = r .place; null = r .null; code = r .entry / 16777216 % 256; length = r .value }
+
+abbrev pub lentFound : List ℕ → Found → List ℕ
+lentFound s r = take (r .value) (drop (r .start + r .prefix) s)
+
+state-of : (s : List ℕ) (x : Result Note) → IfOk (Sound s) x → stateFound (foundOf x) ≡ stateOf x
+unfolding foundOf
+state-of s (refuse n p) h = refl
+state-of s (ok n) (holds h) =
+    let z : entryOf (n .field) / 16777216 % 256 ≡ n .field .code = omega (arith, code-part (n .field) 0 (h .proper)) in
+    rw z
+
+lent-of : (s : List ℕ) (x : Result Note) → lentFound s (foundOf x) ≡ lent s x
+unfolding foundOf
+lent-of s (refuse n p) = refl
+lent-of s (ok n) = refl
+
+module _ (es : List ℕ) (fs : List Field) (s : List ℕ) (k : ℕ) (r : Found) (p : Planned es fs) (h : r ≡ foundOf (itemOf fs s k)) where
+  pub found-inside : r .start + r .prefix + r .value ≤ length s
+  found-inside = rw h (inside-of s (itemOf fs s k) (sound es fs s k p))
+
+  pub found-state : stateFound r ≡ stateOf (itemOf fs s k)
+  found-state = rw h (state-of s (itemOf fs s k) (sound es fs s k p))
+
+  pub found-lent : lentFound s r ≡ lent s (itemOf fs s k)
+  found-lent = rw h (lent-of s (itemOf fs s k))

@@ -1,0 +1,157 @@
+-- The walk in progress: the items noted so far, and the fields that are still ahead.
+-- Assumes nothing.
+use Prim.Native.Nat.{ℕ, _+_, _-_, _*_, _/_, _%_, _<_, _≤_}
+use mathlib.Core.Path.{_≡_, refl, sym, ap, _∙_}
+use mathlib.Core.List.{List, [], _∷_, _++_, append-nil}
+use native.Mathlib.Nat.{le-of-eq}
+use native.Mathlib.Omega.{arith}
+use lib.ListN.{length, take, drop, length-drop}
+use lib.Seq.{append-snoc, drop-drop, take-all}
+use borrow.Author.Tests.{lt-ltb, le-ltb}
+use Rattle.fdoca.specs.Basics.{Result, refuse, ok, _>>=_}
+use Rattle.fdoca.specs.FieldType.{nullable}
+use Rattle.fdoca.specs.Item.{Field, refused, item, measureItem, measure}
+use Rattle.fdoca.specs.Walk.{Note, Cut, noteOf, with, cutFrom, walk}
+use Rattle.field_types.specs.Rows.{layoutOf}
+use Rattle.items.specs.declared.Measured.{Measured}
+use Rattle.items.specs.Answer.{answer}
+use Rattle.items.proofs.Inside.{Numbered, numbered-item, is-item, is-refused, inside-at}
+use Rattle.plans.specs.Plan.{entryOf, Proper, Planned, empty, entry}
+use Rattle.walks.specs.Entry.{measureEntry}
+use Rattle.walks.proofs.Parts.{entry-measures}
+
+-- an item's length
+abbrev pub long : Measured → ℕ
+long m = m .prefix + m .value + m .padding
+
+-- what is noted of a field's item that was measured at p
+abbrev pub noteAt : Field → (p : ℕ) → Measured → Note
+noteAt f p m = record { start = p; field = f; isNull = m .null; prefix = m .prefix; value = m .value; padding = m .padding }
+
+-- the items ns, and then those of a cut
+abbrev pub behind : List Note → Cut → Cut
+behind ns c = record { notes = ns ++ c .notes; end = c .end; rest = c .rest }
+
+-- The walk over the fields fs has noted ns and goes on at p, with the fields of the entries es.
+pub record Going (fs : List Field) (s es : List ℕ) (p : ℕ) (ns : List Note) : Type 0 where
+  pub ahead : List Field
+  pub planned : Planned es ahead
+  pub whole : cutFrom 0 fs s ≡ (cutFrom p ahead (drop p s) >>= λ c. ok (behind ns c))
+
+none-behind : (r : Result Cut) → r ≡ (r >>= λ c. ok (behind [] c))
+none-behind (refuse n p) = refl
+none-behind (ok c) = refl
+
+pub set-out : (fs : List Field) (s es : List ℕ) → Planned es fs → Going fs s es 0 []
+set-out fs s es h = record { ahead = fs; planned = h; whole = none-behind (cutFrom 0 fs s) }
+
+-- the field of the next entry
+record Next (e : ℕ) (es : List ℕ) (fs : List Field) : Type 0 where
+  field : Field
+  later : List Field
+  entry-is : e ≡ entryOf field
+  proper : Proper field
+  planned : Planned es later
+  fields-are : fs ≡ field ∷ later
+
+next : {e : ℕ} {es : List ℕ} {fs : List Field} → Planned (e ∷ es) fs → Next e es fs
+next (entry {f} {es} {fs} h p) = record { field = f; later = fs; entry-is = refl; proper = h; planned = p; fields-are = refl }
+
+none-left : {fs : List Field} → Planned [] fs → fs ≡ []
+none-left empty = refl
+
+entry-is-measure : (f : Field) (e : ℕ) (s : List ℕ) → e ≡ entryOf f → Proper f → measureEntry e s ≡ measure f s
+entry-is-measure f e s q h =
+    let z : e ≡ entryOf f + 281474976710656 * 0 = omega arith in
+    rw z (entry-measures f 0 s h)
+
+-- one step of the definition
+cut-refused : (p n : ℕ) (f : Field) (fs : List Field) (s : List ℕ) → measure f s ≡ refused n → cutFrom p (f ∷ fs) s ≡ refuse n p
+unfolding cutFrom noteOf
+cut-refused p n f fs s e = rw e
+
+cut-item : (p : ℕ) (m : Measured) (f : Field) (fs : List Field) (s : List ℕ) → measure f s ≡ item (m .null) (m .prefix) (m .value) (m .padding)
+    → cutFrom p (f ∷ fs) s ≡ (cutFrom (p + long m) fs (drop (long m) s) >>= λ c. ok (with (noteAt f p m) c))
+unfolding cutFrom noteOf
+cut-item p m f fs s e = rw e
+
+with-behind : (ns : List Note) (n : Note) (r : Result Cut) → ((r >>= λ c. ok (with n c)) >>= λ c. ok (behind ns c)) ≡ (r >>= λ c. ok (behind (ns ++ n ∷ []) c))
+with-behind ns n (refuse k q) = refl
+with-behind ns n (ok c) = rw (append-snoc ns n (c .notes))
+
+-- an item's answer tells it from a refusal
+entry-numbered : (e : ℕ) (s : List ℕ) → Numbered (measureEntry e s)
+unfolding measureEntry
+entry-numbered e s = numbered-item _ _ _ _ s
+
+module _ {fs : List Field} {s es : List ℕ} {e p : ℕ} {ns : List Note} (m : Measured) (g : Going fs s (e ∷ es) p ns) (h : m ≡ answer (measureEntry e (drop p s))) where
+  -- an item refused stops the walk with its number, at its start
+  pub stops : (m .number ≡ 0 → ⊥) → walk fs s ≡ refuse (m .number) p
+  unfolding walk
+  stops z =
+      let x = next (g .planned) in
+      let r : measure (x .field) (drop p s) ≡ refused (m .number) =
+      sym (entry-is-measure (x .field) e (drop p s) (x .entry-is) (x .proper)) ∙ is-refused m (measureEntry e (drop p s)) h z in
+      let c : cutFrom p (g .ahead) (drop p s) ≡ refuse (m .number) p =
+      ap (λ l. cutFrom p l (drop p s)) (x .fields-are) ∙ cut-refused p (m .number) (x .field) (x .later) (drop p s) r in
+      simp (g .whole, c)
+
+  -- an item measured is noted, and the walk goes on behind it
+  pub record Noting : Type 0 where
+    pub field : Field
+    pub entry-is : e ≡ entryOf field
+    pub proper : Proper field
+    pub going : Going fs s es (p + long m) (ns ++ noteAt field p m ∷ [])
+
+  pub goes-on : m .number ≡ 0 → Noting
+  goes-on z =
+      let x = next (g .planned) in
+      let r : measure (x .field) (drop p s) ≡ item (m .null) (m .prefix) (m .value) (m .padding) =
+      sym (entry-is-measure (x .field) e (drop p s) (x .entry-is) (x .proper)) ∙ is-item m (measureEntry e (drop p s)) (entry-numbered e (drop p s)) h z in
+      let c : cutFrom p (g .ahead) (drop p s) ≡ (cutFrom (p + long m) (x .later) (drop (long m) (drop p s)) >>= λ c. ok (with (noteAt (x .field) p m) c)) =
+      ap (λ l. cutFrom p l (drop p s)) (x .fields-are) ∙ cut-item p m (x .field) (x .later) (drop p s) r in
+      record {
+        field = x .field;
+        entry-is = x .entry-is;
+        proper = x .proper;
+        going = record {
+          ahead = x .later;
+          planned = x .planned;
+          whole = g .whole ∙ ap (λ r. r >>= λ c. ok (behind ns c)) c
+              ∙ with-behind ns (noteAt (x .field) p m) (cutFrom (p + long m) (x .later) (drop (long m) (drop p s)))
+              ∙ ap (λ l. cutFrom (p + long m) (x .later) l >>= λ c. ok (behind (ns ++ noteAt (x .field) p m ∷ []) c)) (drop-drop (long m) p s);
+        };
+      }
+
+module _ {fs : List Field} {s : List ℕ} {p : ℕ} {ns : List Note} (g : Going fs s [] p ns) where
+  all-cut : cutFrom 0 fs s ≡ ok (record { notes = ns; end = p; rest = drop p s })
+  unfolding cutFrom
+  all-cut =
+      g .whole ∙ ap (λ l. cutFrom p l (drop p s) >>= λ c. ok (behind ns c)) (none-left (g .planned))
+      ∙ ap (λ l. ok (record { notes = l; end = p; rest = drop p s })) (append-nil ns)
+
+  -- bytes left stop the walk with 16, at the first of them
+  pub has-surplus : p < length s → walk fs s ≡ refuse 16 p
+  unfolding walk
+  has-surplus h =
+      let q : 0 < length (drop p s) = omega (arith, length-drop p s) in
+      simp (all-cut, lt-ltb 0 (length (drop p s)) q)
+
+  pub has-ended : length s ≤ p → walk fs s ≡ ok ns
+  unfolding walk
+  has-ended h =
+      let q : length (drop p s) ≤ 0 = omega (arith, length-drop p s) in
+      simp (all-cut, le-ltb 0 (length (drop p s)) q)
+
+-- the item's answer, from the part of the data that starts with it
+module _ (m : Measured) (e : ℕ) (s : List ℕ) (at : ℕ)
+    (h : m ≡ answer (measureItem (nullable (e / 16777216 % 256)) (layoutOf (e / 1099511627776 % 256)) (e / 4294967296 % 256) (e % 65536) (take (length s - at) (drop at s)))) where
+  pub place-measured : m ≡ answer (measureEntry e (drop at s))
+  unfolding measureEntry
+  place-measured =
+      let q : take (length s - at) (drop at s) ≡ drop at s = take-all (length s - at) (drop at s) (le-of-eq (length-drop at s)) in
+      rw q at h
+
+  pub stays-inside : at ≤ length s → at + long m ≤ length s
+  unfolding measureEntry
+  stays-inside l = inside-at m _ _ _ _ s at l place-measured

@@ -1,0 +1,6 @@
+pub mod Parts
+pub mod Going
+pub mod Marking
+pub mod Writing
+pub mod Seeking
+pub mod Callers

@@ -1,0 +1,105 @@
+-- Marking a plan: the entries of the items noted so far have their marks, the others are as before.
+-- Assumes nothing.
+use Prim.Native.Nat.{ℕ, suc, _+_, _*_, _%_, _<_, _≤_}
+use mathlib.Core.Path.{_≡_, refl, sym, ap, _∙_}
+use mathlib.Core.List.{List, [], _∷_, _++_, map, map-append, append-nil}
+use native.Mathlib.Numerals.{add-one}
+use native.Mathlib.Omega.{arith}
+use lib.ListN.{length, getD, set, drop, length-append, length-map, drop-of-length-le}
+use lib.Seq.{drop-cons, append-snoc, set-at, getD-at}
+use Rattle.fdoca.specs.Basics.{Result, refuse, ok}
+use Rattle.fdoca.specs.Item.{Field}
+use Rattle.fdoca.specs.Walk.{Note, walk}
+use Rattle.items.specs.declared.Measured.{Measured}
+use Rattle.items.specs.Answer.{answer}
+use Rattle.plans.specs.Plan.{Planned}
+use Rattle.walks.specs.declared.Stop.{Stop}
+use Rattle.walks.specs.Entry.{measureEntry}
+use Rattle.walks.specs.Marks.{stopOf, markOf, Marked}
+use Rattle.walks.proofs.Parts.{entry-part}
+use Rattle.walks.proofs.Going.{Going, set-out, long, noteAt, stops, goes-on, has-surplus, has-ended}
+
+-- es was the plan, now it is es′; k entries are marked, and the walk goes on at p
+pub record MarkingFor (es s es′ : List ℕ) (p k : ℕ) (fs : List Field) : Type 0 where
+  pub notes : List Note
+  pub going : Going fs s (drop k es) p notes
+  pub count : length notes ≡ k
+  pub plan-is : es′ ≡ map markOf notes ++ drop k es
+
+pub record Marking (es s es′ : List ℕ) (p k : ℕ) : Type 0 where
+  pub each : (fs : List Field) → Planned es fs → MarkingFor es s es′ p k fs
+
+pub mark-start : (es s : List ℕ) → Marking es s es 0 0
+mark-start es s = record { each = λ fs h. record { notes = []; going = set-out fs s es h; count = refl; plan-is = refl } }
+
+-- the entry at k as it was, and then the entries behind it
+module _ {es s es′ : List ℕ} {p k : ℕ} {fs : List Field} (w : MarkingFor es s es′ p k fs) (i : k < length es) where
+  apart : es′ ≡ map markOf (w .notes) ++ getD es k 0 ∷ drop (suc k) es
+  apart = w .plan-is ∙ ap (λ l. map markOf (w .notes) ++ l) (drop-cons es k 0 i)
+
+  before : length (map markOf (w .notes)) ≡ k
+  before = length-map (w .notes) markOf ∙ w .count
+
+  same-entry : getD es′ k 0 ≡ getD es k 0
+  same-entry = ap (λ l. getD l k 0) apart ∙ getD-at (map markOf (w .notes)) (getD es k 0) (drop (suc k) es) 0 k before
+
+  at-entry : Going fs s (getD es k 0 ∷ drop (suc k) es) p (w .notes)
+  at-entry = rw (drop-cons es k 0 i) at (w .going)
+
+-- a walk that stops leaves a plan of which nothing is said
+stopped : (r : Stop) (n p : ℕ) (es : List ℕ) (w : Result (List Note)) → w ≡ refuse n p → r ≡ record { number = n; place = p } → Marked r es w
+unfolding stopOf
+stopped r n p es w e q = record { answered = rw e q; noted = λ ns y. absurd (let z : _≡_ {A = ℕ} 0 1 = cc in let o : ⊥ = omega arith in o) }
+
+module _ (es s es′ : List ℕ) (p k : ℕ) (m : Measured) (i : k < length es′) (l : length es′ ≡ length es) (w : Marking es s es′ p k) (h : m ≡ answer (measureEntry (getD es′ k 0) (drop p s))) where
+  module _ (fs : List Field) (f : Planned es fs) where
+    now : MarkingFor es s es′ p k fs
+    now = w .each fs f
+
+    inside : k < length es
+    inside = omega arith
+
+    answer-is : m ≡ answer (measureEntry (getD es k 0) (drop p s))
+    answer-is = h ∙ ap (λ e. answer (measureEntry e (drop p s))) (same-entry now inside)
+
+    more : m .number ≡ 0 → MarkingFor es s (set es′ k (getD es′ k 0 % 281474976710656 + p * 281474976710656)) (p + long m) (suc k) fs
+    unfolding markOf
+    more z =
+        let n = goes-on m (at-entry now inside) answer-is z in
+        let x : Note = noteAt (n .field) p m in
+        let v : getD es′ k 0 % 281474976710656 + p * 281474976710656 ≡ markOf x =
+        omega (arith, same-entry now inside, n .entry-is, entry-part (n .field) 0 (n .proper)) in
+        record {
+          notes = now .notes ++ x ∷ [];
+          going = n .going;
+          count = length-append (now .notes) (x ∷ []) ∙ omega (arith, now .count);
+          plan-is = ap (λ l. set l k (getD es′ k 0 % 281474976710656 + p * 281474976710656)) (apart now inside)
+              ∙ set-at (map markOf (now .notes)) (getD es k 0) (drop (suc k) es) (getD es′ k 0 % 281474976710656 + p * 281474976710656) k (before now inside)
+              ∙ ap (λ y. map markOf (now .notes) ++ y ∷ drop (suc k) es) v
+              ∙ sym (append-snoc (map markOf (now .notes)) (markOf x) (drop (suc k) es))
+              ∙ ap (λ l. l ++ drop (suc k) es) (sym (map-append markOf (now .notes) (x ∷ [])));
+        }
+
+    pub mark-stop : (r : Stop) → (m .number ≡ 0 → ⊥) → r ≡ record { number = m .number; place = p } → Marked r es′ (walk fs s)
+    mark-stop r z q = stopped r (m .number) p es′ (walk fs s) (stops m (at-entry now inside) answer-is z) q
+
+  pub mark-more : m .number ≡ 0 → Marking es s (set es′ k (getD es′ k 0 % 281474976710656 + p * 281474976710656)) (p + long m) (k + 1)
+  mark-more z = rw add-one (record { each = λ fs f. more fs f z })
+
+module _ (es s es′ : List ℕ) (p k : ℕ) (i : length es′ ≤ k) (l : length es′ ≡ length es) (w : Marking es s es′ p k) (r : Stop) (fs : List Field) (f : Planned es fs) where
+  none-left : drop k es ≡ []
+  none-left = let h : length es ≤ k = omega arith in drop-of-length-le es h
+
+  through : Going fs s [] p (w .each fs f .notes)
+  through = rw none-left at (w .each fs f .going)
+
+  pub mark-surplus : p < length s → r ≡ record { number = 16; place = p } → Marked r es′ (walk fs s)
+  mark-surplus h q = stopped r 16 p es′ (walk fs s) (has-surplus through h) q
+
+  pub mark-done : length s ≤ p → r ≡ record { number = 0; place = 0 } → Marked r es′ (walk fs s)
+  unfolding stopOf
+  mark-done h q =
+      let e : walk fs s ≡ ok (w .each fs f .notes) = has-ended through h in
+      let v : es′ ≡ map markOf (w .each fs f .notes) =
+      w .each fs f .plan-is ∙ ap (λ l. map markOf (w .each fs f .notes) ++ l) none-left ∙ append-nil (map markOf (w .each fs f .notes)) in
+      record { answered = rw e q; noted = λ ns y. let z : ns ≡ w .each fs f .notes = cc in rw z v }
