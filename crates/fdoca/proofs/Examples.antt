@@ -11,6 +11,7 @@ use Rattle.fdoca.specs.Basics.{Result, refuse, ok, _>>=_}
 use Rattle.fdoca.specs.Walk.{itemLength}
 use Rattle.fdoca.specs.Check.{check}
 use Rattle.fdoca.specs.Unfolding.{unfolded}
+use Rattle.fdoca.specs.Dump as D
 use Rattle.fdoca.specs.Calls.{list, itemAt, valueOf, wholeNumber}
 use Rattle.fdoca.proofs.Everything.{everything}
 
@@ -48,7 +49,7 @@ number0 d s = whole (wholeNumber d s 0)
 unfoldable pub zeros : List ℕ → ℕ → Answer
 zeros d n = size (list d (replicate n 0) (replicate 8194 0) >>= (λ l. ok (length (unfolded d), n)))
 
-dump : List ℕ
+unfoldable pub dump : List ℕ
 unfolding bytes
 dump = bytes 18 0x0C70B181_0000000000000003_0671A1B10002
 
@@ -109,3 +110,9 @@ table =
 pub as-the-papers-say : map (λ l. l .0) table ≡ map (λ l. l .1) table
 unfolding table counts lists item0 number0 zeros everything
 as-the-papers-say = refl
+
+-- The dump of the document's file of 31 bytes: its three lines.
+pub dump-as-the-paper-says : D.dump (bytes 8 0x00000012_00000005 ++ dump ++ bytes 5 0x0061626380)
+    ≡ bytes 16 0x6974656D7320322062797465732035_0A ++ bytes 10 0x302030203132392033_0A ++ bytes 13 0x31203420313239206E756C6C_0A
+unfolding everything dump bytes
+dump-as-the-paper-says = refl

@@ -6,4 +6,5 @@ pub mod Triplet
 pub mod Check
 pub mod Unfolding
 pub mod Calls
+pub mod Dump
 pub mod Account
