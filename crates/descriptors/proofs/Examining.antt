@@ -167,6 +167,7 @@ module _ (d s z e : List ℕ) (p : ℕ) (x : Step) where
             tied = tied;
             known = record { what = w .what; known = rw all-described (w .is-first) };
             whole = eu ∙ rw (all-described, w .is-first);
+            accepted = the-check ∙ w .checks-to ∙ ap ok (sym (w .count-is));
             count = w .count-is ∙ ap length (sym eu);
             small = h .small;
           } in

@@ -156,6 +156,7 @@ pub record Ready (d s z e : List ℕ) (id n : ℕ) : Type 0 where
   pub tied : Tied d s z e
   pub known : Known d id
   pub whole : unfolded d ≡ listOf d id
+  pub accepted : check d ≡ ok n
   pub count : n ≡ length (unfolded d)
   pub small : n ≤ 4096
 

@@ -13,4 +13,6 @@ pub mod Blocks
 pub mod Triplets
 pub mod Count
 pub mod Limits
+pub mod Fields
+pub mod Numbers
 pub mod Calls

@@ -2,7 +2,7 @@
 -- Assumes nothing.
 use mathlib.Core.Path.{_≡_, refl, sym, ap, _∙_}
 use mathlib.Core.Logic.{_↔_}
-use Prim.Native.Nat.{ℕ, suc, _+_, _<_}
+use Prim.Native.Nat.{ℕ, suc, _+_, _≤_, _<_}
 use native.Mathlib.Omega.{arith}
 use mathlib.Core.Bool.{Bool, true, false}
 use mathlib.Core.List.{List, [], _∷_, _++_}
@@ -11,7 +11,8 @@ use lib.ListN.{length, drop}
 use borrow.Author.Tests.{ltb-true, lt-ltb}
 use Rattle.fdoca.specs.Basics.{Result, refuse, ok, _>>=_, _>>_, reject}
 use Rattle.fdoca.specs.Item.{Field, Measured, refused, item, measure}
-use Rattle.fdoca.specs.Account.{NoItem}
+use Rattle.fdoca.specs.FieldType.{FieldType}
+use Rattle.fdoca.specs.Account.{NoValue, short, short-two, negative, over-two, body-two, short-one, over-one, body-one, no-end, no-end-yet, short-space, endless, NoItem, plain, no-indicator, behind}
 use Rattle.fdoca.specs.Walk.{Note, itemLength, Cut, noteOf, with, cutFrom, walk}
 use Rattle.fdoca.proofs.Refusals.{refused-iff}
 use Rattle.fdoca.proofs.Cover.{joined, cut-append}
@@ -118,3 +119,30 @@ module _ (fs : List Field) (s : List ℕ) (n q : ℕ) where
   -- The walk stops with a number at a place exactly where an item is cut short or spoiled there, those before it being good, or bytes are left.
   pub walk-stops : (walk fs s ≡ refuse n q) ↔ Stopped fs s n q
   walk-stops = (λ e. walk-stopped e, λ h. stopped-walk fs s n q h)
+
+-- a refusal of the walk has a number from 13 on
+value-number : {mode F n : ℕ} {T : FieldType} {s : List ℕ} → NoValue mode F T n s → 13 ≤ n
+value-number (short t h) = omega arith
+value-number (short-two h) = omega arith
+value-number (negative h) = omega arith
+value-number (over-two h k) = omega arith
+value-number (body-two h k) = omega arith
+value-number short-one = omega arith
+value-number (over-one h k) = omega arith
+value-number (body-one h) = omega arith
+value-number (no-end e h) = omega arith
+value-number (no-end-yet h k l m) = omega arith
+value-number (short-space h k l) = omega arith
+value-number (endless h k l) = omega arith
+
+item-number : {f : Field} {n : ℕ} {s : List ℕ} → NoItem f n s → 13 ≤ n
+item-number (plain h w) = value-number w
+item-number (no-indicator h) = omega arith
+item-number (behind h k w) = value-number w
+
+pub walk-number : (fs : List Field) (s : List ℕ) (n q : ℕ) → walk fs s ≡ refuse n q → 13 ≤ n
+walk-number fs s n q e = go (walk-stopped fs s n q e)
+  where
+    go : {n q : ℕ} → Stopped fs s n q → 13 ≤ n
+    go (at-item h) = item-number (h .reason)
+    go (surplus c h k) = omega arith

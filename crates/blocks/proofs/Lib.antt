@@ -1,0 +1,4 @@
+pub mod Plans
+pub mod Parts
+pub mod Calling
+pub mod Wholes

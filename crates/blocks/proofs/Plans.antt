@@ -1,0 +1,92 @@
+-- A plan of as many entries as there are items stands for the unfolding; so what walking it finds is what the definitions say.
+-- Assumes nothing.
+use mathlib.Core.Path.{_≡_, refl, sym, ap, _∙_, subst}
+use Prim.Native.Nat.{ℕ, _+_, _*_, _≤_}
+use native.Mathlib.Omega.{arith}
+use mathlib.Core.List.{List, map}
+use lib.ListN.{length, take, length-map}
+use lib.Seq.{sets, length-sets, take-all}
+use Rattle.fdoca.specs.declared.Listed.{Listed}
+use Rattle.fdoca.specs.Basics.{Result, refuse, ok, _>>=_}
+use Rattle.fdoca.specs.Item.{Field}
+use Rattle.fdoca.specs.Walk.{Note, walk}
+use Rattle.fdoca.specs.Unfolding.{unfolded}
+use Rattle.fdoca.specs.Calls.{itemList}
+use Rattle.fdoca.proofs.Stops.{walk-number}
+use Rattle.plans.specs.Plan.{entryOf, Planned}
+use Rattle.plans.specs.Tied.{listOf, Known}
+use Rattle.plans.proofs.Fields.{planned, first-numbers}
+use Rattle.descriptors.specs.Holds.{Ready}
+use Rattle.walks.specs.declared.Stop.{Stop}
+use Rattle.walks.specs.declared.Found.{Found}
+use Rattle.walks.specs.Finding.{foundOf, itemOf}
+use Rattle.walks.specs.Marks.{markOf, stopOf, Marked, Noted}
+use Rattle.walks.proofs.Callers.{as-many, all-noted, found-inside, found-state, found-lent}
+use Rattle.blocks.specs.Answers.{itemsInto, ListedAs, FoundAs}
+
+module _ (d s z e plan : List ℕ) (id : ℕ) (rd : Ready d s z e id (length plan)) where
+  pub ready-known : Known d id
+  ready-known = rd .known
+
+  pub ready-room : length (listOf d id) ≤ length plan
+  ready-room = omega (arith, rd .count, ap length (rd .whole))
+
+  module _ (plan′ : List ℕ) (written : plan′ ≡ sets plan 0 (map entryOf (listOf d id))) where
+    as-long : length (listOf d id) ≡ length plan
+    as-long = sym (ap length (rd .whole)) ∙ sym (rd .count)
+
+    pub is-plan : plan′ ≡ map entryOf (listOf d id)
+    is-plan =
+        let n : length (sets plan 0 (map entryOf (listOf d id))) ≡ length plan = length-sets plan 0 (map entryOf (listOf d id)) in
+        written
+        ∙ sym (take-all (length (listOf d id)) (sets plan 0 (map entryOf (listOf d id))) (omega (arith, as-long)))
+        ∙ first-numbers plan (listOf d id) ready-room
+
+    pub for-unfolding : Planned plan′ (unfolded d)
+    for-unfolding = rw (is-plan, rd .whole) (planned d s z e (rd .tied) id (rd .known))
+
+    pub found-way : (x : List ℕ) (k : ℕ) (r : Found) → length x ≤ 32768 → ((fs : List Field) → Planned plan′ fs → r ≡ foundOf (itemOf fs x k))
+        → FoundAs (itemOf (unfolded d) x k) x r
+    found-way x k r few f =
+        let p : Planned plan′ (unfolded d) = for-unfolding in
+        let h : r ≡ foundOf (itemOf (unfolded d) x k) = f (unfolded d) p in
+        record {
+          found = h;
+          inside = found-inside plan′ (unfolded d) x k r p h;
+          small = omega (arith, found-inside plan′ (unfolded d) x k r p h);
+          low = omega (arith, found-inside plan′ (unfolded d) x k r p h);
+          state = found-state plan′ (unfolded d) x k r p h;
+          lends = found-lent plan′ (unfolded d) x k r p h;
+        }
+
+    module _ (x plan″ old : List ℕ) (stop : Stop) (f : (fs : List Field) → Planned plan′ fs → Marked stop plan″ (walk fs x)) where
+      marked : Marked stop plan″ (walk (unfolded d) x)
+      marked = f (unfolded d) for-unfolding
+
+      pub stopped-way : (r : Listed) → (stop .number ≡ 0 → ⊥) → r ≡ record { number = stop .number; place = stop .place }
+          → ListedAs (itemsInto (length plan) (unfolded d) x old) old r old
+      unfolding itemsInto stopOf
+      stopped-way r h q = go (walk (unfolded d) x) (marked .answered)
+        where
+          go : (w : Result (List Note)) → stop ≡ stopOf w → ListedAs (w >>= (λ ns. ok (itemList (length plan) (length x) ns old))) old r old
+          go (refuse n p) a = record { answered = rw (q, a); entries = refl }
+          go (ok ns) a = absurd (h (rw a))
+
+      pub listed-way : (new : List ℕ) (r : Listed) → stop .number ≡ 0 → r ≡ record { number = 0; place = 0 }
+          → ((ns : List Note) → Noted ns → plan″ ≡ map markOf ns → new ≡ itemList (length ns) (length x) ns old)
+          → ListedAs (itemsInto (length plan) (unfolded d) x old) old r new
+      unfolding itemsInto stopOf
+      listed-way new r h q g = go (walk (unfolded d) x) refl (marked .answered) (marked .noted)
+        where
+          long : length plan′ ≡ length plan
+          long = ap length written ∙ length-sets plan 0 (map entryOf (listOf d id))
+
+          go : (w : Result (List Note)) → walk (unfolded d) x ≡ w → stop ≡ stopOf w → ((ns : List Note) → w ≡ ok ns → plan″ ≡ map markOf ns)
+              → ListedAs (w >>= (λ ns. ok (itemList (length plan) (length x) ns old))) old r new
+          go (refuse n p) e a m =
+              let z : n ≡ 0 = rw a at h in
+              absurd (let y : ⊥ = omega (arith, walk-number (unfolded d) x n p e) in y)
+          go (ok ns) e a m =
+              let n : length ns ≡ length plan = as-many plan′ (unfolded d) x ns for-unfolding e ∙ long in
+              let k : new ≡ itemList (length ns) (length x) ns old = g ns (all-noted plan′ (unfolded d) x ns for-unfolding e) (m ns refl) in
+              record { answered = q; entries = rw n at k }

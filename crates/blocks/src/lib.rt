@@ -1,0 +1,321 @@
+// The calls on a descriptor and its data: list the items, tell an item's state, lend its value, read a whole number.
+ghost use mathlib.Core.Path.{_≡_};
+ghost use Prim.Native.Nat.{_+_, _*_, _≤_};
+ghost use lib.ListN.{length};
+ghost use Rattle.fdoca.specs.Basics.{refuse};
+ghost use Rattle.fdoca.specs.Unfolding.{unfolded};
+ghost use Rattle.fdoca.specs.Calls as calls;
+ghost use Rattle.fdoca.specs.Calls.{itemAt, stateOf, lent, wholeNumber, wholeAnswer};
+ghost use Rattle.descriptors.specs.Holds.{Ready};
+ghost use Rattle.walks.specs.Finding.{foundOf, itemOf};
+ghost use Rattle.blocks.specs.Answers.{itemsInto, ListedAs, FoundAs};
+use descriptors::Examined;
+use fdoca::Listed;
+use fdoca::State;
+use fdoca::Whole;
+use walks::Found;
+
+// The largest data block.
+const MOST_DATA: usize = 32768;
+
+// Plans of up to so many items take a small buffer.
+const FEW: usize = 128;
+
+// The list call on an accepted descriptor, with a plan of as many entries as there are items. The list is written only after the whole block
+// is known to be good.
+fn list_by(
+    desc: &[u8],
+    starts: &[u16; 256],
+    sizes: &[u32; 256],
+    entries: &[u64; 256],
+    id: u8,
+    plan: &mut [u64],
+    data: &[u8],
+    list: &mut [u32],
+) -> Listed
+    requires { ⌜ Ready (now desc) (now starts) (now sizes) (now entries) id (length (now plan)) × (length (now «data») ≤ 32768)
+        × (2 + 2 * length (now plan) ≤ length (now list)) ⌝ }
+    ensures { λ r. ⌜ ListedAs (itemsInto (length (now (plan .entry))) (unfolded (now (desc .entry))) (now («data» .entry)) (now (list .entry))) (now (list .entry)) r (now (list .exit)) ⌝ }
+{
+    plans::write(desc, starts, sizes, entries, plan, id);
+    let stop = walks::mark(plan, data);
+    if stop.number != 0 {
+        return Listed {
+            number: stop.number,
+            place: stop.place,
+        };
+    }
+    walks::write_list(plan, data.len(), list);
+    Listed {
+        number: 0,
+        place: 0,
+    }
+}
+
+// One item of an accepted descriptor's block, with a plan of as many entries as there are items.
+fn find_by(
+    desc: &[u8],
+    starts: &[u16; 256],
+    sizes: &[u32; 256],
+    entries: &[u64; 256],
+    id: u8,
+    plan: &mut [u64],
+    data: &[u8],
+    item: u32,
+) -> Found
+    requires { ⌜ Ready (now desc) (now starts) (now sizes) (now entries) id (length (now plan)) × (length (now «data») ≤ 32768) ⌝ }
+    ensures { λ r. ⌜ FoundAs (itemOf (unfolded (now (desc .entry))) (now («data» .entry)) item) (now («data» .entry)) r ⌝ }
+{
+    plans::write(desc, starts, sizes, entries, plan, id);
+    walks::find(plan, data, item)
+}
+
+fn list_few(
+    desc: &[u8],
+    starts: &[u16; 256],
+    sizes: &[u32; 256],
+    entries: &[u64; 256],
+    x: Examined,
+    data: &[u8],
+    list: &mut [u32],
+) -> Listed
+    requires { ⌜ Ready (now desc) (now starts) (now sizes) (now entries) (x .id) (x .items) × (length (now «data») ≤ 32768)
+        × (2 + 2 * x .items ≤ length (now list)) × (x .items ≤ 128) ⌝ }
+    ensures { λ r. ⌜ ListedAs (itemsInto (x .items) (unfolded (now (desc .entry))) (now («data» .entry)) (now (list .entry))) (now (list .entry)) r (now (list .exit)) ⌝ }
+{
+    let mut plan = [0u64; 128];
+    let n = x.items as usize;
+    list_by(
+        desc,
+        starts,
+        sizes,
+        entries,
+        x.id,
+        &mut plan[..n],
+        data,
+        list,
+    )
+}
+
+fn list_many(
+    desc: &[u8],
+    starts: &[u16; 256],
+    sizes: &[u32; 256],
+    entries: &[u64; 256],
+    x: Examined,
+    data: &[u8],
+    list: &mut [u32],
+) -> Listed
+    requires { ⌜ Ready (now desc) (now starts) (now sizes) (now entries) (x .id) (x .items) × (length (now «data») ≤ 32768)
+        × (2 + 2 * x .items ≤ length (now list)) ⌝ }
+    ensures { λ r. ⌜ ListedAs (itemsInto (x .items) (unfolded (now (desc .entry))) (now («data» .entry)) (now (list .entry))) (now (list .entry)) r (now (list .exit)) ⌝ }
+{
+    let mut plan = [0u64; 4096];
+    let n = x.items as usize;
+    list_by(
+        desc,
+        starts,
+        sizes,
+        entries,
+        x.id,
+        &mut plan[..n],
+        data,
+        list,
+    )
+}
+
+// Lists a block's items: number and place, and in the caller's list the count, the block's length, each item's start and each item's id. On a
+// refusal the list is as before.
+pub fn list(descriptor: &[u8], data: &[u8], list: &mut [u32]) -> Listed
+    ensures { λ r. ⌜ ListedAs (calls.list (now (descriptor .entry)) (now («data» .entry)) (now (list .entry))) (now (list .entry)) r (now (list .exit)) ⌝ }
+{
+    if MOST_DATA < data.len() {
+        return Listed {
+            number: 1,
+            place: 0,
+        };
+    }
+    let mut starts = [triplets::NOWHERE; 256];
+    let mut sizes = [0u32; 256];
+    let mut entries = [0u64; 256];
+    let x = descriptors::examine(descriptor, &mut starts, &mut sizes, &mut entries);
+    if x.number != 0 {
+        return Listed {
+            number: x.number,
+            place: x.place,
+        };
+    }
+    let n = x.items as usize;
+    if list.len() < 2 + 2 * n {
+        return Listed {
+            number: 12,
+            place: 0,
+        };
+    }
+    if n <= FEW {
+        return list_few(descriptor, &starts, &sizes, &entries, x, data, list);
+    }
+    list_many(descriptor, &starts, &sizes, &entries, x, data, list)
+}
+
+fn find_few(
+    desc: &[u8],
+    starts: &[u16; 256],
+    sizes: &[u32; 256],
+    entries: &[u64; 256],
+    x: Examined,
+    data: &[u8],
+    item: u32,
+) -> Found
+    requires { ⌜ Ready (now desc) (now starts) (now sizes) (now entries) (x .id) (x .items) × (length (now «data») ≤ 32768) × (x .items ≤ 128) ⌝ }
+    ensures { λ r. ⌜ FoundAs (itemOf (unfolded (now (desc .entry))) (now («data» .entry)) item) (now («data» .entry)) r ⌝ }
+{
+    let mut plan = [0u64; 128];
+    let n = x.items as usize;
+    find_by(
+        desc,
+        starts,
+        sizes,
+        entries,
+        x.id,
+        &mut plan[..n],
+        data,
+        item,
+    )
+}
+
+fn find_many(
+    desc: &[u8],
+    starts: &[u16; 256],
+    sizes: &[u32; 256],
+    entries: &[u64; 256],
+    x: Examined,
+    data: &[u8],
+    item: u32,
+) -> Found
+    requires { ⌜ Ready (now desc) (now starts) (now sizes) (now entries) (x .id) (x .items) × (length (now «data») ≤ 32768) ⌝ }
+    ensures { λ r. ⌜ FoundAs (itemOf (unfolded (now (desc .entry))) (now («data» .entry)) item) (now («data» .entry)) r ⌝ }
+{
+    let mut plan = [0u64; 4096];
+    let n = x.items as usize;
+    find_by(
+        desc,
+        starts,
+        sizes,
+        entries,
+        x.id,
+        &mut plan[..n],
+        data,
+        item,
+    )
+}
+
+// No item, for a reason that lies before the items.
+fn not_found(number: u32, place: u32) -> Found
+    ensures { λ r. ⌜ r ≡ foundOf (refuse number place) ⌝ }
+{
+    Found {
+        number: number,
+        place: place,
+        start: 0,
+        null: false,
+        prefix: 0,
+        value: 0,
+        entry: 0,
+    }
+}
+
+// The item of a number, or the refusal.
+fn find(descriptor: &[u8], data: &[u8], item: u32) -> Found
+    ensures { λ r. ⌜ FoundAs (itemAt (now (descriptor .entry)) (now («data» .entry)) item) (now («data» .entry)) r ⌝ }
+{
+    if MOST_DATA < data.len() {
+        return not_found(1, 0);
+    }
+    let mut starts = [triplets::NOWHERE; 256];
+    let mut sizes = [0u32; 256];
+    let mut entries = [0u64; 256];
+    let x = descriptors::examine(descriptor, &mut starts, &mut sizes, &mut entries);
+    if x.number != 0 {
+        return not_found(x.number, x.place);
+    }
+    if x.items as usize <= FEW {
+        return find_few(descriptor, &starts, &sizes, &entries, x, data, item);
+    }
+    find_many(descriptor, &starts, &sizes, &entries, x, data, item)
+}
+
+// Tells an item's state: null mark, type code, value length.
+pub fn state(descriptor: &[u8], data: &[u8], item: u32) -> State
+    ensures { λ r. ⌜ r ≡ stateOf (itemAt (now (descriptor .entry)) (now («data» .entry)) item) ⌝ }
+{
+    let found = find(descriptor, data, item);
+    State {
+        number: found.number,
+        place: found.place,
+        null: found.null,
+        code: (found.entry / 16777216 % 256) as u8,
+        length: found.value as u32,
+    }
+}
+
+// Lends an item's value: the part of the data that holds it. On a null or a refusal it is empty, and where an empty part lies is free.
+pub fn lend<'d, 'b>(descriptor: &'d [u8], data: &'b [u8], item: u32) -> &'b [u8]
+    ensures { λ r. ⌜ now r ≡ lent (now («data» .entry)) (itemAt (now (descriptor .entry)) (now («data» .entry)) item) ⌝ }
+{
+    let found = find(descriptor, data, item);
+    let from = found.start + found.prefix;
+    let to = from + found.value;
+    &data[from..to]
+}
+
+// The answer for an item that is no whole number.
+fn not_whole(start: usize) -> Whole
+    requires { ⌜ start ≤ 32768 ⌝ }
+    ensures { λ r. ⌜ r ≡ wholeAnswer (refuse 18 start) ⌝ }
+{
+    Whole {
+        number: 18,
+        place: start as u32,
+        null: false,
+        value: 0,
+    }
+}
+
+// Reads a whole-number item; a null is 0 with its null mark.
+pub fn whole_number(descriptor: &[u8], data: &[u8], item: u32) -> Whole
+    ensures { λ r. ⌜ r ≡ wholeAnswer (wholeNumber (now (descriptor .entry)) (now («data» .entry)) item) ⌝ }
+{
+    let found = find(descriptor, data, item);
+    if found.number != 0 {
+        return Whole {
+            number: found.number,
+            place: found.place,
+            null: false,
+            value: 0,
+        };
+    }
+    let row = field_types::row_of((found.entry / 16777216 % 256) as u8);
+    if row < 5 {
+        return not_whole(found.start);
+    }
+    if 6 < row {
+        return not_whole(found.start);
+    }
+    if found.null {
+        return Whole {
+            number: 0,
+            place: 0,
+            null: true,
+            value: 0,
+        };
+    }
+    let from = found.start + found.prefix;
+    let to = from + found.value;
+    Whole {
+        number: 0,
+        place: 0,
+        null: false,
+        value: numbers::read(&data[from..to], row == 6),
+    }
+}

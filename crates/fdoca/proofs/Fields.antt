@@ -1,0 +1,251 @@
+-- The fields of an accepted descriptor: each has the type of its code, and a field length that the type allows. A value of fixed length is no longer
+-- than its field length.
+-- Assumes nothing.
+use mathlib.Core.Path.{_≡_, refl, sym, ap, _∙_}
+use Prim.Native.Nat.{ℕ, zero, suc, _+_, _*_, _≤_}
+use native.Mathlib.Omega.{arith}
+use mathlib.Core.Bool.{Bool, true, false, not, _&&_, true≢false}
+use mathlib.Core.List.{List, [], _∷_, _++_, map}
+use mathlib.Core.Option.{Option, none, some}
+use lib.Dec.{leb, ltb, eqb}
+use lib.ListN.{length, drop, replicate, getD, getElem?}
+use Rattle.fdoca.specs.Basics.{if_then_else_, elem, lookup, repeat, product, Result, refuse, ok, _>>=_, _>>_, reject, the}
+use Rattle.fdoca.specs.FieldType.{FieldType, Layout, fixed, counted, terminated, Rule, allows, typeOf, ruleOf, nullable}
+use Rattle.fdoca.specs.Triplet.{Triplet, torn, triplet, triplets, Construct, SDA, RLO, ISD, CPT, constructOf, idOf, codeOf, parametersOf, modeOf, biasOf, lengthOf, extentsOf, Group, groupsOf}
+use Rattle.fdoca.specs.Item.{Field, Measured, refused, item, indicated, measureFixed, measureValue, measureNullable, measureItem, measure}
+use Rattle.fdoca.specs.Walk.{Note, itemLength, Cut, noteOf, with, cutFrom, walk}
+use Rattle.fdoca.specs.Calls.{oversize, itemAt}
+use Rattle.fdoca.specs.Check as C
+use Rattle.fdoca.specs.Unfolding.{Described, array, row, fieldsOf, fieldsTaken, fieldsReferred, groupFields, addFields, fieldOf, Layouts, closeRow, closed, unfoldSDA, unfoldRLO, unfoldCPT, unfoldConstruct, unfoldTriplet, unfoldTriplets, start, lastFields, unfolded}
+use Rattle.fdoca.proofs.Results.{IfOk, none-owed, holds, bind-all, the-all, reject-all, ok-of, both-all, always}
+use Rattle.fdoca.proofs.Tests.{by-test, by-le}
+use Rattle.fdoca.proofs.Count.{entries, state, closed-state, check-triplet}
+
+pub record GoodField (f : Field) : Type 0 where
+  pub typed : typeOf (f .code) ≡ some (f .type)
+  pub allowed : allows (ruleOf (f .type) .lengths) (f .fieldLength) ≡ true
+
+pub data AllGood : List Field → Type 0 where
+  nil : AllGood []
+  cons : {f : Field} {fs : List Field} → GoodField f → AllGood fs → AllGood (f ∷ fs)
+
+good-append : {fs gs : List Field} → AllGood fs → AllGood gs → AllGood (fs ++ gs)
+good-append nil b = b
+good-append (cons g a) b = cons g (good-append a b)
+
+good-replicate : (n : ℕ) (f : Field) → GoodField f → AllGood (replicate n f)
+good-replicate zero f g = nil
+good-replicate (suc n) f g = cons g (good-replicate n f g)
+
+good-repeat : (n : ℕ) (l : List Field) → AllGood l → AllGood (repeat n l)
+good-repeat zero l a = nil
+good-repeat (suc n) l a = good-append a (good-repeat n l a)
+
+-- what an id describes has good fields only
+abbrev Good : Described → Type 0
+Good (array f xs) = GoodField f
+Good (row l) = AllGood l
+
+good-fields : (D : Described) → Good D → AllGood (fieldsOf D)
+good-fields (array f xs) g = good-replicate (product xs) f g
+good-fields (row l) g = g
+
+good-taken : (k : ℕ) (D : Described) → Good D → AllGood (fieldsTaken k D)
+good-taken zero D g = good-fields D g
+good-taken (suc k) (array f []) g = cons g nil
+good-taken (suc k) (array f (x ∷ xs)) g = good-replicate (suc k * product xs) f g
+good-taken (suc k) (row l) g = g
+
+data GoodIds : List (ℕ × Described) → Type 0 where
+  none-yet : GoodIds []
+  one-more : {c : ℕ × Described} {ds : List (ℕ × Described)} → Good (c .1) → GoodIds ds → GoodIds (c ∷ ds)
+
+abbrev GoodRow : Option (ℕ × List Field) → Type 0
+GoodRow none = Unit {0}
+GoodRow (some r) = AllGood (r .1)
+
+record GoodLayouts (u : Layouts) : Type 0 where
+  ids : GoodIds (u .described)
+  at-hand : GoodRow (u .current)
+
+good-closed : (u : Layouts) → GoodLayouts u → GoodIds (closed u)
+good-closed u g = go (u .current) (g .at-hand)
+  where
+    go : (o : Option (ℕ × List Field)) → GoodRow o → GoodIds (closeRow (u .described) o)
+    go none k = g .ids
+    go (some r) k = one-more k (g .ids)
+
+good-referred : (k i : ℕ) (ds : List (ℕ × Described)) → GoodIds ds → AllGood (fieldsReferred k (lookup i ds))
+good-referred k i [] none-yet = nil
+good-referred k i (c ∷ ds) (one-more g gs) = go (eqb i (c .0)) (good-referred k i ds gs)
+  where
+    go : (b : Bool) → AllGood (fieldsReferred k (lookup i ds)) → AllGood (fieldsReferred k (if b then some (c .1) else lookup i ds))
+    go true r = good-taken k (c .1) g
+    go false r = r
+
+good-add : (ds : List (ℕ × Described)) (l : List Field) (gs : List Group) → GoodIds ds → AllGood l → AllGood (addFields ds l gs)
+unfolding addFields
+good-add ds l [] g a = a
+good-add ds l (x ∷ gs) g a =
+    good-add ds (l ++ groupFields ds x) gs g (good-append a (good-repeat (x .factor) _ (good-referred (x .taken) (x .ref) ds g)))
+
+-- the parts of a good SDA
+and-right : (a b : Bool) → (a && b) ≡ true → b ≡ true
+and-right true b h = h
+and-right false b h = absurd (true≢false (sym h))
+
+and-left : (a b : Bool) → (a && b) ≡ true → a ≡ true
+and-left true b h = refl
+and-left false b h = h
+
+good-parameters : (r : Rule) (ps : List ℕ) → C.goodParameters r ps ≡ true → allows (r .lengths) (lengthOf ps) ≡ true
+unfolding C.goodParameters
+good-parameters r ps h =
+    and-right (eqb (getD ps 0 0) 0 && eqb (getD ps 1 0) 0 && leb (biasOf ps) (C.most (r .hasBias)) && eqb (getD ps 4 0) 0 && leb (modeOf ps) (C.most (r .hasMode)))
+    (allows (r .lengths) (lengthOf ps)) h
+
+not-false-is : (b : Bool) → not b ≡ false → b ≡ true
+not-false-is true h = refl
+not-false-is false h = absurd (true≢false h)
+
+good-SDA : (t : List ℕ) (T : FieldType) → typeOf (codeOf t) ≡ some T → C.goodSDA t ≡ true → GoodField (fieldOf T t)
+good-SDA t T e h =
+    let a : (not (eqb (idOf t) 0) && C.goodType (typeOf (codeOf t)) (parametersOf t)) ≡ true = and-left _ (not (elem 0 (extentsOf t))) h in
+    let b : C.goodType (typeOf (codeOf t)) (parametersOf t) ≡ true = and-right (not (eqb (idOf t) 0)) _ a in
+    record { typed = e; allowed = good-parameters (ruleOf T) (parametersOf t) (sym (ap (λ o. C.goodType o (parametersOf t)) e) ∙ b) }
+
+good-unfold-SDA : (u : Layouts) (p : ℕ) (t : List ℕ) (o : Option FieldType) → typeOf (codeOf t) ≡ o → GoodLayouts u
+    → IfOk (λ st. GoodLayouts (unfoldSDA o u t)) (C.checkSDA (entries (closed u)) p t)
+unfolding C.checkSDA unfoldSDA
+good-unfold-SDA u p t none e g = always (C.checkSDA (entries (closed u)) p t) g
+good-unfold-SDA u p t (some T) e g =
+    reject-all (not (C.goodLengthSDA t)) 5 p
+    (λ h. reject-all (not (C.goodSDA t)) 6 p
+    (λ h₁. let f : GoodField (fieldOf T t) = good-SDA t T e (not-false-is (C.goodSDA t) h₁) in
+    let k : GoodLayouts (record { described = (idOf t, array (fieldOf T t) (extentsOf t)) ∷ closed u; current = none }) =
+    record { ids = one-more f (good-closed u g); at-hand = tt } in
+    always _ k))
+
+good-unfold-CPT : (u : Layouts) (t : List ℕ) (o : Option (ℕ × List Field)) → GoodRow o → GoodLayouts u → GoodLayouts (unfoldCPT o u t)
+unfolding unfoldCPT
+good-unfold-CPT u t none k g = g
+good-unfold-CPT u t (some r) k g = record { ids = g .ids; at-hand = good-add (u .described) (r .1) (groupsOf t) (g .ids) k }
+
+good-construct : (c : Option Construct) (u : Layouts) (p : ℕ) (t : List ℕ) → GoodLayouts u
+    → IfOk (λ st. GoodLayouts (unfoldConstruct c u t)) (C.checkConstruct c (state u) p t)
+unfolding C.checkConstruct unfoldConstruct unfoldRLO
+good-construct none u p t g = none-owed
+good-construct (some SDA) u p t g = rw (closed-state u) (good-unfold-SDA u p t (typeOf (codeOf t)) refl g)
+good-construct (some RLO) u p t g =
+    let k : GoodLayouts (record { described = closed u; current = some (idOf t, addFields (closed u) [] (groupsOf t)) }) =
+    record { ids = good-closed u g; at-hand = good-add (closed u) [] (groupsOf t) (good-closed u g) nil } in
+    always _ k
+good-construct (some ISD) u p t g = always _ g
+good-construct (some CPT) u p t g = always _ (good-unfold-CPT u t (u .current) (g .at-hand) g)
+
+good-triplet : (u : Layouts) (t : Triplet) → GoodLayouts u → IfOk (λ st. GoodLayouts (unfoldTriplet u t)) (C.checkTriplet (state u) t)
+unfolding C.checkTriplet unfoldTriplet
+good-triplet u (torn p) g = none-owed
+good-triplet u (triplet p t) g = good-construct (constructOf t) u p t g
+
+good-triplets : (u : Layouts) (ts : List Triplet) → GoodLayouts u → IfOk (λ st. GoodLayouts (unfoldTriplets u ts)) (C.checkTriplets (state u) ts)
+unfolding C.checkTriplets unfoldTriplets
+good-triplets u [] g = holds g
+good-triplets u (t ∷ ts) g =
+    bind-all (C.checkTriplet (state u) t) (both-all (check-triplet u t) (good-triplet u t g))
+    (λ st h. rw (h .0) (good-triplets (unfoldTriplet u t) ts (h .1)))
+
+good-last : (ds : List (ℕ × Described)) → GoodIds ds → AllGood (lastFields ds)
+good-last [] none-yet = nil
+good-last (c ∷ ds) (one-more g gs) = good-fields (c .1) g
+
+good-check : (d : List ℕ) → IfOk (λ n. AllGood (unfolded d)) (C.check d)
+unfolding C.check unfolded
+good-check d =
+    reject-all (ltb C.maxDescriptor (length d)) 1 0
+    (λ h. bind-all (C.checkTriplets C.begin (triplets d)) (good-triplets start (triplets d) (record { ids = none-yet; at-hand = tt }))
+    (λ st g. always (C.lastCount (length d) (C.closed st)) (good-last (closed (unfoldTriplets start (triplets d))) (good-closed _ g))))
+
+-- The fields of an accepted descriptor are good.
+pub fields-good : (d : List ℕ) (n : ℕ) → C.check d ≡ ok n → AllGood (unfolded d)
+fields-good d n e = ok-of (rw e at (good-check d))
+
+-- a value of fixed length
+abbrev NoLonger : Layout → ℕ → Measured → Type 0
+NoLonger fixed F (item z p v r) = v ≤ F
+NoLonger fixed F (refused n) = Unit {0}
+NoLonger (counted k) F m = Unit {0}
+NoLonger terminated F m = Unit {0}
+
+fixed-value : (l : Layout) (mode F : ℕ) (s : List ℕ) → NoLonger l F (measureValue l mode F s)
+unfolding measureValue measureFixed
+fixed-value fixed mode F s = by-le (NoLonger fixed F) F (length s) (λ h. omega arith) (λ h. tt)
+fixed-value (counted k) mode F s = tt
+fixed-value terminated mode F s = tt
+
+behind-indicator : (l : Layout) (F : ℕ) (m : Measured) → NoLonger l F m → NoLonger l F (indicated m)
+behind-indicator fixed F (refused n) h = tt
+behind-indicator fixed F (item z p v r) h = h
+behind-indicator (counted k) F m h = tt
+behind-indicator terminated F m h = tt
+
+fixed-nullable : (l : Layout) (mode F : ℕ) (s : List ℕ) → NoLonger l F (measureNullable l mode F s)
+unfolding measureNullable
+fixed-nullable fixed mode F [] = tt
+fixed-nullable fixed mode F (b ∷ s) =
+    by-le (NoLonger fixed F) 128 b (λ h. omega arith) (λ h. behind-indicator fixed F (measureValue fixed mode F s) (fixed-value fixed mode F s))
+fixed-nullable (counted k) mode F s = tt
+fixed-nullable terminated mode F s = tt
+
+fixed-item : (f : Field) (s : List ℕ) → NoLonger (ruleOf (f .type) .layout) (f .fieldLength) (measure f s)
+unfolding measure measureItem
+fixed-item f s =
+    by-test (NoLonger (ruleOf (f .type) .layout) (f .fieldLength)) (nullable (f .code))
+    (λ h. fixed-nullable (ruleOf (f .type) .layout) (f .mode) (f .fieldLength) s)
+    (λ h. fixed-value (ruleOf (f .type) .layout) (f .mode) (f .fieldLength) s)
+
+-- an item as it is noted: of a good field, and with a value that its field can hold
+pub record GoodNote (n : Note) : Type 0 where
+  pub field-good : GoodField (n .field)
+  pub no-longer : ruleOf (n .field .type) .layout ≡ fixed → n .value ≤ n .field .fieldLength
+
+data GoodNotes : List Note → Type 0 where
+  nil : GoodNotes []
+  cons : {n : Note} {ns : List Note} → GoodNote n → GoodNotes ns → GoodNotes (n ∷ ns)
+
+good-note : (f : Field) (p : ℕ) (m : Measured) → GoodField f → NoLonger (ruleOf (f .type) .layout) (f .fieldLength) m → IfOk GoodNote (noteOf f p m)
+unfolding noteOf
+good-note f p (refused n) g h = none-owed
+good-note f p (item z l v r) g h =
+    let k : GoodNote (record { start = p; field = f; isNull = z; prefix = l; value = v; padding = r }) =
+    record { field-good = g; no-longer = λ e. rw e at h } in
+    holds k
+
+good-cut : (p : ℕ) (fs : List Field) (s : List ℕ) → AllGood fs → IfOk (λ c. GoodNotes (c .notes)) (cutFrom p fs s)
+unfolding cutFrom
+good-cut p [] s nil = holds nil
+good-cut p (f ∷ fs) s (cons g gs) =
+    bind-all (noteOf f p (measure f s)) (good-note f p (measure f s) g (fixed-item f s))
+    (λ n h. bind-all (cutFrom (p + itemLength n) fs (drop (itemLength n) s)) (good-cut (p + itemLength n) fs (drop (itemLength n) s) gs)
+    (λ c k. let r : GoodNotes (with n c .notes) = cons h k in holds r))
+
+good-walk : (fs : List Field) (s : List ℕ) → AllGood fs → IfOk GoodNotes (walk fs s)
+unfolding walk
+good-walk fs s g =
+    bind-all (cutFrom 0 fs s) (good-cut 0 fs s g) (λ c k. reject-all (ltb 0 (length (c .rest))) 16 (c .end) (λ h. holds k))
+
+nth-good : (ns : List Note) (k : ℕ) → GoodNotes ns → IfOk GoodNote (the (getElem? ns k) 17 0)
+nth-good [] k nil = none-owed
+nth-good (n ∷ ns) zero (cons g gs) = holds g
+nth-good (n ∷ ns) (suc k) (cons g gs) = nth-good ns k gs
+
+good-item : (d s : List ℕ) (k : ℕ) → IfOk GoodNote (itemAt d s k)
+unfolding itemAt
+good-item d s k =
+    reject-all (oversize d s) 1 0
+    (λ h. bind-all (C.check d) (good-check d)
+    (λ n g. bind-all (walk (unfolded d) s) (good-walk (unfolded d) s g) (λ ns w. nth-good ns k w)))
+
+-- The item that the calls tell of has a good field, and a value that the field can hold.
+pub item-good : (d s : List ℕ) (k : ℕ) (n : Note) → itemAt d s k ≡ ok n → GoodNote n
+item-good d s k n e = ok-of (rw e at (good-item d s k))
