@@ -264,9 +264,9 @@ pub fn lend<'d, 'b>(descriptor: &'d [u8], data: &'b [u8], item: u32) -> &'b [u8]
     ensures { λ r. ⌜ now r ≡ lent (now («data» .entry)) (itemAt (now (descriptor .entry)) (now («data» .entry)) item) ⌝ }
 {
     let found = find(descriptor, data, item);
-    let from = found.start + found.prefix;
-    let to = from + found.value;
-    &data[from..to]
+    let first = found.start + found.prefix;
+    let last = first + found.value;
+    &data[first..last]
 }
 
 // The answer for an item that is no whole number.

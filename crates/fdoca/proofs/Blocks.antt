@@ -32,7 +32,7 @@ notesOf p [] xs = []
 notesOf p (f ∷ fs) [] = []
 notesOf p (f ∷ fs) (x ∷ xs) = noteOfParts p f x ∷ notesOf (p + itemLength (noteOfParts p f x)) fs xs
 
-behind : (x : Parts) (s : List ℕ) → drop (length (x .prefix) + length (x .value) + length (x .padding)) (onto x s) ≡ s
+pub behind : (x : Parts) (s : List ℕ) → drop (length (x .prefix) + length (x .value) + length (x .padding)) (onto x s) ≡ s
 behind x s =
     let a : List ℕ = x .prefix ++ (x .value ++ x .padding) in
     let e : length a ≡ length (x .prefix) + length (x .value) + length (x .padding) = simp length-append (omega arith) in

@@ -15,4 +15,5 @@ pub mod Count
 pub mod Limits
 pub mod Fields
 pub mod Numbers
+pub mod Demands
 pub mod Calls

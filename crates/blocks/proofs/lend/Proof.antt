@@ -11,12 +11,12 @@ find-requires : tie.Need-find-requires
 find-requires c κs = search needs
 
 -- src/lib.rt:267:16
-add-from : tie.Need-add-from
-add-from c = search needs
+add-first : tie.Need-add-first
+add-first c = search needs
 
 -- src/lib.rt:268:14
-add-to : tie.Need-add-to
-add-to c = search needs
+add-last : tie.Need-add-last
+add-last c = search needs
 
 -- src/lib.rt:269:5
 sub-result : tie.Need-sub-result
@@ -37,4 +37,4 @@ returns c = search (lend-way)
 pub lend-spec : {M : Type 1} → statement M
 lend-spec =
     tie.close
-    (tie.spec find-requires add-from add-to sub-result part-result-start part-result-end returns)
+    (tie.spec find-requires add-first add-last sub-result part-result-start part-result-end returns)
