@@ -18,7 +18,7 @@ use Rattle.fdoca.specs.Calls.{oversize, itemAt}
 use Rattle.fdoca.specs.Check as C
 use Rattle.fdoca.specs.Unfolding.{Described, array, row, fieldsOf, fieldsTaken, fieldsReferred, groupFields, addFields, fieldOf, Layouts, closeRow, closed, unfoldSDA, unfoldRLO, unfoldCPT, unfoldConstruct, unfoldTriplet, unfoldTriplets, start, lastFields, unfolded}
 use Rattle.fdoca.proofs.Results.{IfOk, none-owed, holds, bind-all, the-all, reject-all, ok-of, both-all, always}
-use Rattle.fdoca.proofs.Tests.{by-test, by-le}
+use Rattle.fdoca.proofs.Tests.{by-test, by-le, and-left, and-right}
 use Rattle.fdoca.proofs.Count.{entries, state, closed-state, check-triplet}
 
 pub record GoodField (f : Field) : Type 0 where
@@ -90,14 +90,6 @@ good-add ds l (x ∷ gs) g a =
     good-add ds (l ++ groupFields ds x) gs g (good-append a (good-repeat (x .factor) _ (good-referred (x .taken) (x .ref) ds g)))
 
 -- the parts of a good SDA
-and-right : (a b : Bool) → (a && b) ≡ true → b ≡ true
-and-right true b h = h
-and-right false b h = absurd (true≢false (sym h))
-
-and-left : (a b : Bool) → (a && b) ≡ true → a ≡ true
-and-left true b h = refl
-and-left false b h = h
-
 good-parameters : (r : Rule) (ps : List ℕ) → C.goodParameters r ps ≡ true → allows (r .lengths) (lengthOf ps) ≡ true
 unfolding C.goodParameters
 good-parameters r ps h =

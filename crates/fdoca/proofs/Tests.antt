@@ -1,8 +1,8 @@
 -- Tests on numbers: from a fact to the test of a definition, from a test back to the fact, and definitions by cases.
 -- Assumes nothing.
-use mathlib.Core.Path.{_≡_, refl}
+use mathlib.Core.Path.{_≡_, refl, sym}
 use Prim.Native.Nat.{ℕ, _≤_, _<_}
-use mathlib.Core.Bool.{Bool, true, false}
+use mathlib.Core.Bool.{Bool, true, false, _&&_, true≢false}
 use lib.Dec.{leb, ltb, eqb}
 use borrow.Author.Tests.{lt-ltb, le-ltb, le-leb, lt-leb, eq-eqb, ne-eqb, ltb-true, ltb-false, leb-true, leb-false, eqb-true, eqb-false}
 use Rattle.fdoca.specs.Basics.{if_then_else_}
@@ -27,3 +27,12 @@ module _ {A : Type 0} (P : A → Type 0) (a b : ℕ) {x y : A} where
 
   pub by-eq : (a ≡ b → P x) → ((a ≡ b → ⊥) → P y) → P (if eqb a b then x else y)
   by-eq f g = by-test P (eqb a b) (λ t. f (eqb-true a b t)) (λ t. g (eqb-false a b t))
+
+-- both parts of a test that holds
+pub and-left : (a b : Bool) → (a && b) ≡ true → a ≡ true
+and-left true b h = refl
+and-left false b h = h
+
+pub and-right : (a b : Bool) → (a && b) ≡ true → b ≡ true
+and-right true b h = h
+and-right false b h = absurd (true≢false (sym h))

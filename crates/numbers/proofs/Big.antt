@@ -24,7 +24,3 @@ big-below (b ∷ bs) bytes =
     let most : b * 256 ^ length bs ≤ 255 * 256 ^ length bs = mul-le-mul-right (256 ^ length bs) (omega arith) in
     let others : big bs < 256 ^ length bs = big-below bs (λ i. bytes (suc i)) in
     rw pow-suc (omega arith)
-
-pub big-pair : (a b : ℕ) → big (a ∷ b ∷ []) ≡ a * 256 + b
-unfolding big
-big-pair a b = omega arith

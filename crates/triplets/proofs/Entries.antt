@@ -19,6 +19,7 @@ use Rattle.fdoca.specs.Triplet.{idOf, codeOf, parametersOf, modeOf, lengthOf, e
 use Rattle.fdoca.specs.Item.{Field}
 use Rattle.fdoca.specs.Check.{goodLengthSDA, goodType, goodSDA}
 use Rattle.fdoca.specs.Unfolding.{fieldOf}
+use Rattle.fdoca.proofs.Tests.{and-left, and-right}
 use Rattle.fdoca.proofs.Account.{big-two}
 use Rattle.field_types.specs.declared.Rule.{Rule}
 use Rattle.field_types.specs.Rows.{rowOf, prefixOf, inNumbers, ruleFor, encoded, ruleAt}
@@ -31,14 +32,6 @@ use Rattle.triplets.specs.Kept.{EntryOf, PutSDA}
 use Rattle.triplets.proofs.Sda.{FourLengths, none-left, one-left, two-left, three-left, four-lengths, at-least-12, extents-next, extents-end, left-out, no-zero}
 
 -- the parts of a good SDA
-and-right : (a b : Bool) → (a && b) ≡ true → b ≡ true
-and-right true b h = h
-and-right false b h = absurd (let z : _≡_ {A = ℕ} 0 1 = cc in let w : ⊥ = omega arith in w)
-
-and-left : (a b : Bool) → (a && b) ≡ true → a ≡ true
-and-left true b h = refl
-and-left false b h = h
-
 module _ (t : List ℕ) (h : goodSDA t ≡ true) where
   pub good-positive : 0 < product (extentsOf t)
   good-positive =
