@@ -32,10 +32,10 @@ use Rattle.descriptors.proofs.Rows.{groups-map}
 abbrev answered : ℕ → Checked
 answered n = record { number = 0; place = 0; items = n }
 
-pub oversized : (d s z e : List ℕ) (r : Examined) → 4096 < length d → r ≡ record { number = 1; place = 0; items = 0; id = 0 } → Examination d s z e r
+pub oversized : (d s z e : List ℕ) (r : Examined) (most : ℕ) → 4096 ≤ most → most < length d → r ≡ record { number = 1; place = 0; items = 0; id = 0 } → Examination d s z e r
 unfolding check
-oversized d s z e r h q =
-    record { same = rw (q, lt-ltb 4096 (length d) h); ready = λ k. absurd (let w : 1 ≡ 0 = rw q at k in let y : ⊥ = omega arith in y) }
+oversized d s z e r most m h q =
+    record { same = rw (q, lt-ltb 4096 (length d) (omega arith)); ready = λ k. absurd (let w : 1 ≡ 0 = rw q at k in let y : ⊥ = omega arith in y) }
 
 -- before the first triplet
 pub at-first : (d s z e : List ℕ) (x : Step) → s ≡ replicate 256 65535 → z ≡ replicate 256 0 → e ≡ replicate 256 0 → Bare 0 x → Held d s z e 0 x

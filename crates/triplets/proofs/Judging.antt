@@ -18,9 +18,9 @@ use Rattle.triplets.specs.Judged.{outcome, Agrees, rowAtHand, GoodRow, A
 use Rattle.triplets.proofs.Outcomes.{refused-outcome, is-described, not-described}
 use Rattle.triplets.proofs.Groups.{whole-groups}
 
--- a row of good length has its head
-pub row-has-2 : (t : List ℕ) → goodLengthRow t ≡ true → 2 < length t
-row-has-2 t h = omega (arith, whole-groups t h .some-there)
+-- a row of good length has its first 6 bytes
+pub row-has : (t : List ℕ) → goodLengthRow t ≡ true → (k : ℕ) → k < 6 → k < length t
+row-has t h k l = omega (arith, whole-groups t h .some-there)
 
 -- an outcome, and what is made of what was found
 then-ok : {A B : Type 0} (f : A → B) (n p : ℕ) (a : A) → (outcome n p a >>= (λ x. ok (f x))) ≡ outcome n p (f a)

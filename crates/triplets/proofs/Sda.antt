@@ -123,11 +123,11 @@ module _ (t : List ℕ) where
       let g : goodType (typeOf (codeOf t)) (parametersOf t) ≡ false = sym (good-eight (getD t 3 0) (parametersOf t) (parameters-length t (at-least-12 t l))) ∙ sym e ∙ z in
       simp (ne-eqb (getD t 2 0) 0 i, g)
 
-  pub good-extents : (b : Bool) (n : ℕ) → goodLengthSDA t ≡ true → (getD t 2 0 ≡ 0 → ⊥) → b ≡ goodEight (getD t 3 0) (parametersOf t) → b ≡ true
-      → n ≡ product (extentsOf t) → ltb 0 n ≡ goodSDA t
-  good-extents b n l i e z c =
+  pub good-extents : (b a : Bool) (n : ℕ) → goodLengthSDA t ≡ true → (getD t 2 0 ≡ 0 → ⊥) → b ≡ goodEight (getD t 3 0) (parametersOf t) → b ≡ true
+      → n ≡ product (extentsOf t) → a ≡ ltb 0 n → a ≡ goodSDA t
+  good-extents b a n l i e z c q =
       let g : goodType (typeOf (codeOf t)) (parametersOf t) ≡ true = sym (good-eight (getD t 3 0) (parametersOf t) (parameters-length t (at-least-12 t l))) ∙ sym e ∙ z in
-      rw (c, ← no-zero (extentsOf t)) (simp (ne-eqb (getD t 2 0) 0 i, g))
+      q ∙ rw (c, ← no-zero (extentsOf t)) (simp (ne-eqb (getD t 2 0) 0 i, g))
 
 -- the ways through judging an SDA
 module _ (t s : List ℕ) (r : Sum) where
@@ -167,13 +167,13 @@ module _ (t s : List ℕ) (r : Sum) where
           small = omega arith;
         }
 
-    pub sda-many : (n : ℕ) → r .number ≡ 10 → r .count ≡ 0 → getD s i 0 ≡ 65535 → n ≡ product (extentsOf t) → 4096 < n → JudgedSDA t s r
+    pub sda-many : (n most : ℕ) → r .number ≡ 10 → r .count ≡ 0 → getD s i 0 ≡ 65535 → n ≡ product (extentsOf t) → 4096 ≤ most → most < n → JudgedSDA t s r
     unfolding checkSDA
-    sda-many n e z u c m =
+    sda-many n most e z u c o m =
         record {
           result = λ p y es w.
               let d : isDescribed (idOf t) es ≡ false = not-described s y es (idOf t) (rw j at l) (rw j at u) w in
-              rw (← h, f, ← g, k, d, ← c, lt-ltb 4096 n m, e) (refused-outcome 10 p (described (idOf t) (extentsOf t) es) (λ q. omega arith));
+              rw (← h, f, ← g, k, d, ← c, lt-ltb 4096 n (omega arith), e) (refused-outcome 10 p (described (idOf t) (extentsOf t) es) (λ q. omega arith));
           count = λ q. absurd (let w : ⊥ = omega arith in w);
           length-good = λ q. absurd (let w : ⊥ = omega arith in w);
           good = λ q. absurd (let w : ⊥ = omega arith in w);
@@ -193,22 +193,7 @@ module _ (t s : List ℕ) (r : Sum) where
           small = rw e m;
         }
 
--- what an SDA of good length has
+-- an SDA of good length has its first 12 bytes
 module _ (t : List ℕ) (h : goodLengthSDA t ≡ true) where
-  pub has-2 : 2 < length t
-  has-2 = omega (arith, at-least-12 t h)
-
-  pub has-3 : 3 < length t
-  has-3 = omega (arith, at-least-12 t h)
-
-  pub has-12 : 12 ≤ length t
-  has-12 = at-least-12 t h
-
-  pub has-9 : 9 < length t
-  has-9 = omega (arith, at-least-12 t h)
-
-  pub has-10 : 10 < length t
-  has-10 = omega (arith, at-least-12 t h)
-
-  pub has-11 : 11 < length t
-  has-11 = omega (arith, at-least-12 t h)
+  pub has : (k : ℕ) → k < 12 → k < length t
+  has k l = omega (arith, at-least-12 t h)

@@ -23,8 +23,8 @@ use Rattle.triplets.specs.Judged.{outcome, lowerOfEntry, Positive, Enter
 
 -- a row's count with n more items
 module _ (sum n : ℕ) (small : sum ≤ 4096) where
-  pub total-over : 4096 - sum < n → record { number = 10; count = 0 } ≡ summed sum n
-  total-over h = rw (lt-ltb 4096 (sum + n) (omega arith))
+  pub total-over : (most : ℕ) → 4096 ≤ most → most - sum < n → record { number = 10; count = 0 } ≡ summed sum n
+  total-over most m h = rw (lt-ltb 4096 (sum + n) (omega arith))
 
   pub total-fine : n ≤ 4096 - sum → record { number = 0; count = sum + n } ≡ summed sum n
   total-fine h = rw (le-ltb 4096 (sum + n) (omega arith))

@@ -176,15 +176,16 @@ fn add_group(start: u16, size: u32, taken: u8, factor: u8, sum: usize) -> Sum
         return refusal(9);
     }
     let times = wide(factor);
+    let count = low(size);
     if taken == 0 {
-        let count = low(size);
         return total(sum, times * count);
     }
     let lower = high(size);
+    let part = wide(taken) * lower;
     if lower == 0 {
         return refusal(9);
     }
-    total(sum, times * (wide(taken) * lower))
+    total(sum, times * part)
 }
 
 // A row's count with the groups of an RLO or a CPT, or the number of the first refusal among them.
@@ -219,8 +220,8 @@ pub fn judge_rlo(t: &[u8], starts: &[u16; 256], sizes: &[u32; 256]) -> Sum
     if t[2] == 0 {
         return refusal(6);
     }
-    let id = wide(t[2]);
-    if starts[id] != NOWHERE {
+    let own = wide(t[2]);
+    if starts[own] != NOWHERE {
         return refusal(7);
     }
     add_groups(t, starts, sizes, 0)

@@ -25,7 +25,7 @@ answer-requires c κs = search needs
 
 -- src/lib.rt:226:9
 returns : tie.Need-returns Inv-loop μ-loop
-returns c = search (oversized)
+returns c = search (needs, oversized)
 
 -- src/lib.rt:229:9
 bare-requires : tie.Need-bare-requires Inv-loop μ-loop

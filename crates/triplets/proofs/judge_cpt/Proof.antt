@@ -1,4 +1,4 @@
-use Rattle.triplets.proofs.Judging.{row-has-2, cpt-bad-length, cpt-reserved, cpt-groups}
+use Rattle.triplets.proofs.Judging.{row-has, cpt-bad-length, cpt-reserved, cpt-groups}
 use borrow.Author.Tests.{not-true, not-false}
 use Rattle.triplets.proofs.Outcomes.{is-true}
 use borrow.Author.Needs.{needs}
@@ -24,7 +24,7 @@ returns c = search (cpt-bad-length, not-true)
 
 -- src/lib.rt:234:8
 shared-slice-read-if2 : tie.Need-shared-slice-read-if2
-shared-slice-read-if2 c = search (row-has-2, is-true, not-false)
+shared-slice-read-if2 c = search (needs, row-has, is-true, not-false)
 
 -- src/lib.rt:235:9
 refusal-requires-2 : tie.Need-refusal-requires-2

@@ -1,4 +1,4 @@
-use Rattle.triplets.proofs.Judging.{row-has-2, rlo-bad-length, rlo-no-id, rlo-taken, rlo-groups}
+use Rattle.triplets.proofs.Judging.{row-has, rlo-bad-length, rlo-no-id, rlo-taken, rlo-groups}
 use borrow.Author.Tests.{not-true, not-false}
 use Rattle.triplets.proofs.Outcomes.{is-true}
 use borrow.Author.Needs.{needs}
@@ -25,7 +25,7 @@ returns c = search (rlo-bad-length, not-true)
 
 -- src/lib.rt:216:8
 shared-slice-read-if2 : tie.Need-shared-slice-read-if2
-shared-slice-read-if2 c = search (row-has-2, is-true, not-false)
+shared-slice-read-if2 c = search (needs, row-has, is-true, not-false)
 
 -- src/lib.rt:217:9
 refusal-requires-2 : tie.Need-refusal-requires-2
@@ -37,7 +37,7 @@ returns-2 c = search (rlo-no-id, not-false)
 
 -- src/lib.rt:219:19
 shared-slice-read-wide : tie.Need-shared-slice-read-wide
-shared-slice-read-wide c = search (row-has-2, is-true, not-false)
+shared-slice-read-wide c = search (needs, row-has, is-true, not-false)
 
 -- src/lib.rt:219:9
 wide-requires : tie.Need-wide-requires

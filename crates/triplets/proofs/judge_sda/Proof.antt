@@ -1,4 +1,4 @@
-use Rattle.triplets.proofs.Sda.{has-2, sda-bad-length, sda-bad, sda-taken, sda-many, sda-fine}
+use Rattle.triplets.proofs.Sda.{has, sda-bad-length, sda-bad, sda-taken, sda-many, sda-fine}
 use borrow.Author.Tests.{not-true, not-false}
 use Rattle.triplets.proofs.Outcomes.{is-true}
 use borrow.Author.Needs.{needs}
@@ -38,7 +38,7 @@ returns-2 c = search (sda-bad, not-true, not-false)
 
 -- src/lib.rt:132:19
 shared-slice-read-wide : tie.Need-shared-slice-read-wide
-shared-slice-read-wide c = search (has-2, is-true, not-false)
+shared-slice-read-wide c = search (needs, has, is-true, not-false)
 
 -- src/lib.rt:132:9
 wide-requires : tie.Need-wide-requires
@@ -70,7 +70,7 @@ refusal-requires-4 c κs = search needs
 
 -- src/lib.rt:138:9
 returns-4 : tie.Need-returns-4
-returns-4 c = search (sda-many, not-false)
+returns-4 c = search (needs, sda-many, not-false)
 
 -- src/lib.rt:123:1
 returns-5 : tie.Need-returns-5

@@ -1,4 +1,4 @@
-use Rattle.triplets.proofs.Sda.{has-2, has-3, has-9, has-10, has-11, has-12}
+use Rattle.triplets.proofs.Sda.{at-least-12, has}
 use Rattle.triplets.proofs.Entries.{entry-way}
 use borrow.Author.Needs.{needs}
 use Rattle.triplets.proofs.plan_entry.Statement.{statement}
@@ -11,7 +11,7 @@ use Rattle.field_types.proofs.rule_at.Reads as rule-at-reads
 
 -- src/lib.rt:315:57
 shared-slice-read-row-of : tie.Need-shared-slice-read-row-of
-shared-slice-read-row-of c = search (has-3)
+shared-slice-read-row-of c = search (needs, has)
 
 -- src/lib.rt:315:37
 row-of-requires : tie.Need-row-of-requires
@@ -27,7 +27,7 @@ wide64-requires c κs = search needs
 
 -- src/lib.rt:317:23
 shared-slice-read-wide64 : tie.Need-shared-slice-read-wide64
-shared-slice-read-wide64 c = search (has-9)
+shared-slice-read-wide64 c = search (needs, has)
 
 -- src/lib.rt:317:16
 wide64-requires-2 : tie.Need-wide64-requires-2
@@ -43,7 +43,7 @@ add-mode c = search needs
 
 -- src/lib.rt:318:23
 shared-slice-read-wide64-2 : tie.Need-shared-slice-read-wide64-2
-shared-slice-read-wide64-2 c = search (has-3)
+shared-slice-read-wide64-2 c = search (needs, has)
 
 -- src/lib.rt:318:16
 wide64-requires-3 : tie.Need-wide64-requires-3
@@ -59,7 +59,7 @@ add-code c = search needs
 
 -- src/lib.rt:319:21
 shared-slice-read-wide64-3 : tie.Need-shared-slice-read-wide64-3
-shared-slice-read-wide64-3 c = search (has-2)
+shared-slice-read-wide64-3 c = search (needs, has)
 
 -- src/lib.rt:319:14
 wide64-requires-4 : tie.Need-wide64-requires-4
@@ -75,7 +75,7 @@ add-id c = search needs
 
 -- src/lib.rt:320:25
 shared-slice-read-wide64-4 : tie.Need-shared-slice-read-wide64-4
-shared-slice-read-wide64-4 c = search (has-10)
+shared-slice-read-wide64-4 c = search (needs, has)
 
 -- src/lib.rt:320:18
 wide64-requires-5 : tie.Need-wide64-requires-5
@@ -87,7 +87,7 @@ mul-length c = search needs
 
 -- src/lib.rt:320:47
 shared-slice-read-wide64-5 : tie.Need-shared-slice-read-wide64-5
-shared-slice-read-wide64-5 c = search (has-11)
+shared-slice-read-wide64-5 c = search (needs, has)
 
 -- src/lib.rt:320:40
 wide64-requires-6 : tie.Need-wide64-requires-6
@@ -107,7 +107,7 @@ add-result c = search needs
 
 -- src/lib.rt:311:1
 returns : tie.Need-returns
-returns c = search (entry-way, has-12)
+returns c = search (entry-way, at-least-12)
 
 pub plan-entry-spec : {M : Type 1} → statement M
 plan-entry-spec =

@@ -1,4 +1,4 @@
-use Rattle.triplets.proofs.Sda.{has-2}
+use Rattle.triplets.proofs.Sda.{has}
 use Rattle.triplets.proofs.Entries.{product-fits, sum-fits, size-fits, put-way}
 use borrow.Author.Needs.{needs}
 use Rattle.triplets.proofs.put_sda.Statement.{statement}
@@ -11,7 +11,7 @@ use Rattle.triplets.proofs.wide.Reads as wide-reads
 
 -- src/lib.rt:348:19
 shared-slice-read-wide : tie.Need-shared-slice-read-wide
-shared-slice-read-wide c = search (has-2)
+shared-slice-read-wide c = search (needs, has)
 
 -- src/lib.rt:348:9
 wide-requires : tie.Need-wide-requires

@@ -1,4 +1,4 @@
-use Rattle.triplets.proofs.Sda.{has-2, has-3, has-12, bad-id, bad-parameters, good-extents}
+use Rattle.triplets.proofs.Sda.{at-least-12, has, bad-id, bad-parameters, good-extents}
 use borrow.Author.Tests.{not-true, not-false}
 use borrow.Author.Needs.{needs}
 use Rattle.triplets.proofs.sda_good.Statement.{statement}
@@ -10,7 +10,7 @@ use Rattle.field_types.proofs.parameters_ok.Reads as parameters-ok-reads
 
 -- src/lib.rt:113:8
 shared-slice-read-if1 : tie.Need-shared-slice-read-if1
-shared-slice-read-if1 c = search (has-2)
+shared-slice-read-if1 c = search (needs, has)
 
 -- src/lib.rt:114:9
 returns : tie.Need-returns
@@ -18,7 +18,7 @@ returns c = search (bad-id)
 
 -- src/lib.rt:116:36
 shared-slice-read-parameters-ok : tie.Need-shared-slice-read-parameters-ok
-shared-slice-read-parameters-ok c = search (has-3)
+shared-slice-read-parameters-ok c = search (needs, has)
 
 -- src/lib.rt:116:42
 sub-parameters-ok : tie.Need-sub-parameters-ok
@@ -30,7 +30,7 @@ part-parameters-ok-start c = search needs
 
 -- src/lib.rt:116:42
 part-parameters-ok-end : tie.Need-part-parameters-ok-end
-part-parameters-ok-end c = search (has-12)
+part-parameters-ok-end c = search (at-least-12)
 
 -- src/lib.rt:116:9
 parameters-ok-requires : tie.Need-parameters-ok-requires

@@ -11,7 +11,7 @@ sub-if1 c = search needs
 
 -- src/lib.rt:152:9
 returns : tie.Need-returns
-returns c = search (total-over)
+returns c = search (needs, total-over)
 
 -- src/lib.rt:159:16
 add-t3 : tie.Need-add-t3
