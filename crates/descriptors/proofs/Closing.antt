@@ -118,8 +118,5 @@ module _ (d s z e : List ℕ) (p : ℕ) (x : Step) where
       go none c = absurd (true≢false (sym xr ∙ c))
       go (some r) c = c .so-far .before
 
-  pub held-there : Held d s z e p x → p ≤ length d
-  held-there h = h .1 .there
-
   pub held-small : Held d s z e p x → length d ≤ 4096 → p ≤ 4096
   held-small h k = omega (arith, h .1 .there)

@@ -2,50 +2,34 @@ use Rattle.blocks.proofs.Calling.{ready, item-over, item-refused, item-
 use borrow.Author.Needs.{needs}
 use Rattle.blocks.proofs.find.Statement.{statement}
 use Rattle.blocks.proofs.find.Tie as tie
-use Rattle.blocks.proofs.find.Reads as reads
-use Rattle.blocks.proofs.find.Lts as lts
-use Rattle.blocks.proofs.find_few.Reads as find-few-reads
-use Rattle.blocks.proofs.find_many.Reads as find-many-reads
-use Rattle.blocks.proofs.not_found.Reads as not-found-reads
-use Rattle.descriptors.proofs.examine.Reads as examine-reads
 
--- src/lib.rt:233:9
 not-found-requires : tie.Need-not-found-requires
 not-found-requires c κs = search needs
 
--- src/lib.rt:233:9
 returns : tie.Need-returns
 returns c = search (item-over)
 
--- src/lib.rt:238:9
 examine-requires : tie.Need-examine-requires
 examine-requires c κs = search needs
 
--- src/lib.rt:240:9
 not-found-requires-2 : tie.Need-not-found-requires-2
 not-found-requires-2 c κs = search needs
 
--- src/lib.rt:240:9
 returns-2 : tie.Need-returns-2
 returns-2 c = search (item-refused)
 
--- src/lib.rt:242:8
 cast-if3 : tie.Need-cast-if3
 cast-if3 c = search needs
 
--- src/lib.rt:243:9
 find-few-requires : tie.Need-find-few-requires
 find-few-requires c κs = search (needs, ready)
 
--- src/lib.rt:243:9
 returns-3 : tie.Need-returns-3
 returns-3 c = search (item-fine)
 
--- src/lib.rt:245:5
 find-many-requires : tie.Need-find-many-requires
 find-many-requires c κs = search (needs, ready)
 
--- src/lib.rt:229:1
 returns-4 : tie.Need-returns-4
 returns-4 c = search (item-fine)
 

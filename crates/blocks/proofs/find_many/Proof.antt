@@ -2,27 +2,19 @@ use Rattle.blocks.proofs.Parts.{part-length, part-ready}
 use borrow.Author.Needs.{needs}
 use Rattle.blocks.proofs.find_many.Statement.{statement}
 use Rattle.blocks.proofs.find_many.Tie as tie
-use Rattle.blocks.proofs.find_many.Reads as reads
-use Rattle.blocks.proofs.find_many.Lts as lts
-use Rattle.blocks.proofs.find_by.Reads as find-by-reads
 
--- src/lib.rt:200:13
 cast-n : tie.Need-cast-n
 cast-n c = search needs
 
--- src/lib.rt:207:9
 array-borrow-prefix-plan : tie.Need-array-borrow-prefix-plan
 array-borrow-prefix-plan c = search needs
 
--- src/lib.rt:207:9
 slice-aggregate-find-by : tie.Need-slice-aggregate-find-by
 slice-aggregate-find-by c = search (part-length)
 
--- src/lib.rt:201:5
 find-by-requires : tie.Need-find-by-requires
 find-by-requires c κs = search (needs, part-ready)
 
--- src/lib.rt:187:1
 returns : tie.Need-returns
 returns c = search needs
 

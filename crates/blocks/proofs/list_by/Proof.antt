@@ -3,41 +3,28 @@ use Rattle.blocks.proofs.Plans.{ready-known, ready-room, stopped-way, l
 use borrow.Author.Needs.{needs}
 use Rattle.blocks.proofs.list_by.Statement.{statement}
 use Rattle.blocks.proofs.list_by.Tie as tie
-use Rattle.blocks.proofs.list_by.Reads as reads
-use Rattle.blocks.proofs.list_by.Lts as lts
-use Rattle.plans.proofs.write.Reads as write-reads
-use Rattle.walks.proofs.mark.Reads as mark-reads
-use Rattle.walks.proofs.write_list.Reads as write-list-reads
 
--- src/lib.rt:39:5
 write-requires : tie.Need-write-requires
 write-requires c κs = search (needs, ready-known, ready-room)
 
--- src/lib.rt:40:9
 mark-requires : tie.Need-mark-requires
 mark-requires c κs = search needs
 
--- src/lib.rt:42:9
 same-length : tie.Need-same-length
 same-length c = search needs
 
--- src/lib.rt:42:9
 returns : tie.Need-returns
 returns c = stopped-way _ _ _ _ _ _ (c .before .before .before .before .before .before .before .before .before .before .before .before .before .before .pre .0) _ (c .before .before .before .before .before .before .before .before .write .ensures) _ _ _ _ (c .before .before .before .before .mark .ensures) _ (c .if1 .taken) refl
 
--- src/lib.rt:47:5
 write-list-requires : tie.Need-write-list-requires
 write-list-requires c κs = search needs
 
--- src/lib.rt:25:1
 same-length-2 : tie.Need-same-length-2
 same-length-2 c = search needs
 
--- src/lib.rt:25:1
 same-length-3 : tie.Need-same-length-3
 same-length-3 c = search needs
 
--- src/lib.rt:25:1
 returns-2 : tie.Need-returns-2
 returns-2 c = listed-way _ _ _ _ _ _ (c .before .before .before .before .before .before .before .before .before .before .before .before .before .before .before .before .before .before .before .pre .0) _ (c .before .before .before .before .before .before .before .before .before .before .before .before .before .write .ensures) _ _ _ _ (c .before .before .before .before .before .before .before .before .before .mark .ensures) _ _ (c .before .before .before .before .before .if1 .left) refl (c .before .before .write-list .ensures)
 

@@ -2,31 +2,22 @@ use Rattle.blocks.proofs.Parts.{part-length, part-ready, part-room, par
 use borrow.Author.Needs.{needs}
 use Rattle.blocks.proofs.list_many.Statement.{statement}
 use Rattle.blocks.proofs.list_many.Tie as tie
-use Rattle.blocks.proofs.list_many.Reads as reads
-use Rattle.blocks.proofs.list_many.Lts as lts
-use Rattle.blocks.proofs.list_by.Reads as list-by-reads
 
--- src/lib.rt:114:13
 cast-n : tie.Need-cast-n
 cast-n c = search needs
 
--- src/lib.rt:121:9
 array-borrow-prefix-plan : tie.Need-array-borrow-prefix-plan
 array-borrow-prefix-plan c = search needs
 
--- src/lib.rt:121:9
 slice-aggregate-list-by : tie.Need-slice-aggregate-list-by
 slice-aggregate-list-by c = search (part-length)
 
--- src/lib.rt:115:5
 list-by-requires : tie.Need-list-by-requires
 list-by-requires c κs = search (needs, part-ready, part-room)
 
--- src/lib.rt:100:1
 same-length : tie.Need-same-length
 same-length c = search needs
 
--- src/lib.rt:100:1
 returns : tie.Need-returns
 returns c = search (part-listed)
 

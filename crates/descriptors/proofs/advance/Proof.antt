@@ -3,109 +3,76 @@ use Rattle.descriptors.proofs.Moving.{torn-short, torn-past}
 use borrow.Author.Needs.{needs}
 use Rattle.descriptors.proofs.advance.Statement.{statement}
 use Rattle.descriptors.proofs.advance.Tie as tie
-use Rattle.descriptors.proofs.advance.Reads as reads
-use Rattle.descriptors.proofs.advance.Lts as lts
-use Rattle.descriptors.proofs.bare.Reads as bare-reads
-use Rattle.descriptors.proofs.close.Reads as close-reads
-use Rattle.descriptors.proofs.cpt_step.Reads as cpt-step-reads
-use Rattle.descriptors.proofs.rlo_step.Reads as rlo-step-reads
-use Rattle.descriptors.proofs.sda_step.Reads as sda-step-reads
-use Rattle.descriptors.proofs.wide.Reads as wide-reads
-use Rattle.triplets.proofs.judge_isd.Reads as judge-isd-reads
 
--- src/lib.rt:183:18
 shared-slice-read-wide : tie.Need-shared-slice-read-wide
 shared-slice-read-wide c = search needs
 
--- src/lib.rt:183:9
 wide-requires : tie.Need-wide-requires
 wide-requires c κs = search needs
 
--- src/lib.rt:185:9
 bare-requires : tie.Need-bare-requires
 bare-requires c κs = search needs
 
--- src/lib.rt:185:9
 returns : tie.Need-returns
 returns c = search (torn-short)
 
--- src/lib.rt:187:8
 sub-if2 : tie.Need-sub-if2
 sub-if2 c = search needs
 
--- src/lib.rt:188:9
 bare-requires-2 : tie.Need-bare-requires-2
 bare-requires-2 c κs = search needs
 
--- src/lib.rt:188:9
 returns-2 : tie.Need-returns-2
 returns-2 c = search (torn-past)
 
--- src/lib.rt:190:15
 add-end : tie.Need-add-end
 add-end c = search needs
 
--- src/lib.rt:191:13
 sub-t : tie.Need-sub-t
 sub-t c = search needs
 
--- src/lib.rt:191:13
 part-t-start : tie.Need-part-t-start
 part-t-start c = search needs
 
--- src/lib.rt:191:13
 part-t-end : tie.Need-part-t-end
 part-t-end c = search needs
 
--- src/lib.rt:192:16
 shared-slice-read-kind : tie.Need-shared-slice-read-kind
 shared-slice-read-kind c = search needs
 
--- src/lib.rt:194:9
 cpt-step-requires : tie.Need-cpt-step-requires
 cpt-step-requires c κs = search needs
 
--- src/lib.rt:194:9
 returns-3 : tie.Need-returns-3
 returns-3 c = search (over-cpt)
 
--- src/lib.rt:196:5
 close-requires : tie.Need-close-requires
 close-requires c κs = search needs
 
--- src/lib.rt:198:9
 sda-step-requires : tie.Need-sda-step-requires
 sda-step-requires c κs = search needs
 
--- src/lib.rt:198:9
 returns-4 : tie.Need-returns-4
 returns-4 c = search (over-sda)
 
--- src/lib.rt:201:9
 rlo-step-requires : tie.Need-rlo-step-requires
 rlo-step-requires c κs = search needs
 
--- src/lib.rt:201:9
 returns-5 : tie.Need-returns-5
 returns-5 c = search (over-rlo)
 
--- src/lib.rt:204:21
 judge-isd-requires : tie.Need-judge-isd-requires
 judge-isd-requires c κs = search needs
 
--- src/lib.rt:204:9
 bare-requires-3 : tie.Need-bare-requires-3
 bare-requires-3 c κs = search needs
 
--- src/lib.rt:204:9
 returns-6 : tie.Need-returns-6
 returns-6 c = search (over-isd)
 
--- src/lib.rt:206:5
 bare-requires-4 : tie.Need-bare-requires-4
 bare-requires-4 c κs = search needs
 
--- src/lib.rt:172:1
 returns-7 : tie.Need-returns-7
 returns-7 c = search (over-other)
 

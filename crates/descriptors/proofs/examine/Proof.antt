@@ -5,13 +5,6 @@ use borrow.Author.Needs.{needs}
 use Rattle.descriptors.specs.Holds.{Held}
 use Rattle.descriptors.proofs.examine.Statement.{statement}
 use Rattle.descriptors.proofs.examine.Tie as tie
-use Rattle.descriptors.proofs.examine.Reads as reads
-use Rattle.descriptors.proofs.examine.Lts as lts
-use Rattle.descriptors.proofs.advance.Reads as advance-reads
-use Rattle.descriptors.proofs.answer.Reads as answer-reads
-use Rattle.descriptors.proofs.bare.Reads as bare-reads
-use Rattle.descriptors.proofs.close.Reads as close-reads
-use Rattle.descriptors.proofs.wide.Reads as wide-reads
 
 abbrev Inv-loop : tie.InvT-loop
 Inv-loop desc starts₀ sizes₀ entries₀ p₀ x₀ starts sizes entries p x = Held desc starts sizes entries p x × (length desc ≤ 4096)
@@ -19,87 +12,66 @@ Inv-loop desc starts₀ sizes₀ entries₀ p₀ x₀ starts sizes entries p x =
 abbrev μ-loop : tie.MeasureT-loop
 μ-loop desc starts₀ sizes₀ entries₀ p₀ x₀ starts sizes entries p x = length desc - p
 
--- src/lib.rt:226:9
 answer-requires : tie.Need-answer-requires Inv-loop μ-loop
 answer-requires c κs = search needs
 
--- src/lib.rt:226:9
 returns : tie.Need-returns Inv-loop μ-loop
 returns c = search (needs, oversized)
 
--- src/lib.rt:229:9
 bare-requires : tie.Need-bare-requires Inv-loop μ-loop
 bare-requires c κs = search needs
 
--- src/lib.rt:230:5
 loop-holds : tie.Need-loop-holds Inv-loop μ-loop
 loop-holds c = search (needs, at-first)
 
--- src/lib.rt:231:9
 advance-requires : tie.Need-advance-requires Inv-loop μ-loop
 advance-requires c κs = search needs
 
--- src/lib.rt:233:27
 cast-answer : tie.Need-cast-answer Inv-loop μ-loop
 cast-answer c = search needs
 
--- src/lib.rt:233:44
 cast-answer-2 : tie.Need-cast-answer-2 Inv-loop μ-loop
 cast-answer-2 c = search needs
 
--- src/lib.rt:233:13
 answer-requires-2 : tie.Need-answer-requires-2 Inv-loop μ-loop
 answer-requires-2 c κs = search needs
 
--- src/lib.rt:233:13
 returns-2 : tie.Need-returns-2 Inv-loop μ-loop
 returns-2 c = search (stopped)
 
--- src/lib.rt:235:19
 shared-slice-read-wide : tie.Need-shared-slice-read-wide Inv-loop μ-loop
 shared-slice-read-wide c = search needs
 
--- src/lib.rt:235:14
 wide-requires : tie.Need-wide-requires Inv-loop μ-loop
 wide-requires c κs = search needs
 
--- src/lib.rt:235:9
 add-p : tie.Need-add-p Inv-loop μ-loop
 add-p c = next-fits _ _ _ _ _ _ (c .before .before .before .before .advance .ensures) _ (c .before .before .if2 .left) (c .wide .ensures .0) (c .before .before .before .before .before .before .before .before .before .loop .inv .1)
 
--- src/lib.rt:230:5
 loop-less : tie.Need-loop-less Inv-loop μ-loop
 loop-less c = next-less _ _ _ _ _ _ (c .before .before .before .before .advance .ensures) _ (c .before .before .if2 .left) (c .wide .ensures .0) (c .before .before .before .before .before .before .before .before .loop-test .taken)
 
--- src/lib.rt:230:5
 loop-again : tie.Need-loop-again Inv-loop μ-loop
 loop-again c = search (at-next)
 
--- src/lib.rt:238:27
 cast-answer-3 : tie.Need-cast-answer-3 Inv-loop μ-loop
 cast-answer-3 c = search needs
 
--- src/lib.rt:238:9
 answer-requires-3 : tie.Need-answer-requires-3 Inv-loop μ-loop
 answer-requires-3 c κs = search needs
 
--- src/lib.rt:238:9
 returns-3 : tie.Need-returns-3 Inv-loop μ-loop
 returns-3 c = search (nothing)
 
--- src/lib.rt:240:5
 close-requires : tie.Need-close-requires Inv-loop μ-loop
 close-requires c κs = search needs
 
--- src/lib.rt:241:18
 cast-answer-4 : tie.Need-cast-answer-4 Inv-loop μ-loop
 cast-answer-4 c = search needs
 
--- src/lib.rt:241:5
 answer-requires-4 : tie.Need-answer-requires-4 Inv-loop μ-loop
 answer-requires-4 c κs = search needs
 
--- src/lib.rt:216:1
 returns-4 : tie.Need-returns-4 Inv-loop μ-loop
 returns-4 c = search (finished)
 

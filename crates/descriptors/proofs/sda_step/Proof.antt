@@ -2,33 +2,22 @@ use Rattle.descriptors.proofs.Stepping.{sda-refused, judged-length, jud
 use borrow.Author.Needs.{needs}
 use Rattle.descriptors.proofs.sda_step.Statement.{statement}
 use Rattle.descriptors.proofs.sda_step.Tie as tie
-use Rattle.descriptors.proofs.sda_step.Reads as reads
-use Rattle.descriptors.proofs.sda_step.Lts as lts
-use Rattle.descriptors.proofs.bare.Reads as bare-reads
-use Rattle.triplets.proofs.judge_sda.Reads as judge-sda-reads
-use Rattle.triplets.proofs.put_sda.Reads as put-sda-reads
 
--- src/lib.rt:121:9
 judge-sda-requires : tie.Need-judge-sda-requires
 judge-sda-requires c κs = search needs
 
--- src/lib.rt:123:9
 bare-requires : tie.Need-bare-requires
 bare-requires c κs = search needs
 
--- src/lib.rt:123:9
 returns : tie.Need-returns
 returns c = search (sda-refused)
 
--- src/lib.rt:125:5
 put-sda-requires : tie.Need-put-sda-requires
 put-sda-requires c κs = search (needs, judged-length, judged-good, judged-count, judged-small)
 
--- src/lib.rt:129:13
 shared-slice-read-t14 : tie.Need-shared-slice-read-t14
 shared-slice-read-t14 c = search (judged-id)
 
--- src/lib.rt:111:1
 returns-2 : tie.Need-returns-2
 returns-2 c = search (sda-put)
 

@@ -4,10 +4,6 @@ use lib.ListN.{length}
 use borrow.Author.Needs.{needs}
 use Rattle.triplets.proofs.add_groups.Statement.{statement}
 use Rattle.triplets.proofs.add_groups.Tie as tie
-use Rattle.triplets.proofs.add_groups.Reads as reads
-use Rattle.triplets.proofs.add_groups.Lts as lts
-use Rattle.triplets.proofs.add_group.Reads as add-group-reads
-use Rattle.triplets.proofs.wide.Reads as wide-reads
 
 abbrev Inv-loop : tie.InvT-loop
 Inv-loop t starts sizes sum n₀ g₀ n g = Adding t starts sizes sum n g
@@ -15,71 +11,54 @@ Inv-loop t starts sizes sum n₀ g₀ n g = Adding t starts sizes sum n g
 abbrev μ-loop : tie.MeasureT-loop
 μ-loop t starts sizes sum n₀ g₀ n g = length t - g
 
--- src/lib.rt:194:5
 loop-holds : tie.Need-loop-holds Inv-loop μ-loop
 loop-holds c = search (adding-start)
 
--- src/lib.rt:195:23
 shared-slice-read-wide : tie.Need-shared-slice-read-wide Inv-loop μ-loop
 shared-slice-read-wide c = search needs
 
--- src/lib.rt:195:13
 wide-requires : tie.Need-wide-requires Inv-loop μ-loop
 wide-requires c κs = search needs
 
--- src/lib.rt:196:31
 mul-add-group : tie.Need-mul-add-group Inv-loop μ-loop
 mul-add-group c = search needs
 
--- src/lib.rt:196:31
 element-copy-out-add-group : tie.Need-element-copy-out-add-group Inv-loop μ-loop
 element-copy-out-add-group c = search needs
 
--- src/lib.rt:196:43
 mul-add-group-2 : tie.Need-mul-add-group-2 Inv-loop μ-loop
 mul-add-group-2 c = search needs
 
--- src/lib.rt:196:43
 element-copy-out-add-group-2 : tie.Need-element-copy-out-add-group-2 Inv-loop μ-loop
 element-copy-out-add-group-2 c = search needs
 
--- src/lib.rt:196:56
 add-add-group : tie.Need-add-add-group Inv-loop μ-loop
 add-add-group c = search needs
 
--- src/lib.rt:196:54
 shared-slice-read-add-group : tie.Need-shared-slice-read-add-group Inv-loop μ-loop
 shared-slice-read-add-group c = search (group-second)
 
--- src/lib.rt:196:66
 add-add-group-2 : tie.Need-add-add-group-2 Inv-loop μ-loop
 add-add-group-2 c = search needs
 
--- src/lib.rt:196:64
 shared-slice-read-add-group-2 : tie.Need-shared-slice-read-add-group-2 Inv-loop μ-loop
 shared-slice-read-add-group-2 c = search (group-third)
 
--- src/lib.rt:196:13
 add-group-requires : tie.Need-add-group-requires Inv-loop μ-loop
 add-group-requires c κs = search needs
 
--- src/lib.rt:198:13
 returns : tie.Need-returns Inv-loop μ-loop
 returns c = search (adding-stop)
 
--- src/lib.rt:201:9
 add-g : tie.Need-add-g Inv-loop μ-loop
 add-g c = search needs
 
--- src/lib.rt:194:5
 loop-less : tie.Need-loop-less Inv-loop μ-loop
 loop-less c = search needs
 
--- src/lib.rt:194:5
 loop-again : tie.Need-loop-again Inv-loop μ-loop
 loop-again c = search (adding-more)
 
--- src/lib.rt:188:1
 returns-2 : tie.Need-returns-2 Inv-loop μ-loop
 returns-2 c = search (adding-end)
 

@@ -1,18 +1,13 @@
 use Rattle.fdoca.proofs.Tests.{tests}
 use Rattle.triplets.proofs.isd_length.Statement.{statement}
 use Rattle.triplets.proofs.isd_length.Tie as tie
-use Rattle.triplets.proofs.isd_length.Reads as reads
-use Rattle.triplets.proofs.isd_length.Lts as lts
 
--- src/lib.rt:248:9
 returns : tie.Need-returns
 returns c = search tests
 
--- src/lib.rt:251:9
 returns-2 : tie.Need-returns-2
 returns-2 c = search tests
 
--- src/lib.rt:243:1
 returns-3 : tie.Need-returns-3
 returns-3 c = search tests
 

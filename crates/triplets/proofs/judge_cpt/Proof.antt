@@ -4,41 +4,28 @@ use Rattle.triplets.proofs.Outcomes.{is-true}
 use borrow.Author.Needs.{needs}
 use Rattle.triplets.proofs.judge_cpt.Statement.{statement}
 use Rattle.triplets.proofs.judge_cpt.Tie as tie
-use Rattle.triplets.proofs.judge_cpt.Reads as reads
-use Rattle.triplets.proofs.judge_cpt.Lts as lts
-use Rattle.triplets.proofs.add_groups.Reads as add-groups-reads
-use Rattle.triplets.proofs.refusal.Reads as refusal-reads
-use Rattle.triplets.proofs.row_length.Reads as row-length-reads
 
--- src/lib.rt:231:9
 row-length-requires : tie.Need-row-length-requires
 row-length-requires c κs = search needs
 
--- src/lib.rt:232:9
 refusal-requires : tie.Need-refusal-requires
 refusal-requires c κs = search needs
 
--- src/lib.rt:232:9
 returns : tie.Need-returns
 returns c = search (cpt-bad-length, not-true)
 
--- src/lib.rt:234:8
 shared-slice-read-if2 : tie.Need-shared-slice-read-if2
 shared-slice-read-if2 c = search (needs, row-has, is-true, not-false)
 
--- src/lib.rt:235:9
 refusal-requires-2 : tie.Need-refusal-requires-2
 refusal-requires-2 c κs = search needs
 
--- src/lib.rt:235:9
 returns-2 : tie.Need-returns-2
 returns-2 c = search (cpt-reserved, not-false)
 
--- src/lib.rt:237:5
 add-groups-requires : tie.Need-add-groups-requires
 add-groups-requires c κs = search (needs, is-true, not-false)
 
--- src/lib.rt:227:1
 returns-3 : tie.Need-returns-3
 returns-3 c = search (cpt-groups, not-false)
 

@@ -4,75 +4,52 @@ use Rattle.triplets.proofs.Outcomes.{is-true}
 use borrow.Author.Needs.{needs}
 use Rattle.triplets.proofs.judge_sda.Statement.{statement}
 use Rattle.triplets.proofs.judge_sda.Tie as tie
-use Rattle.triplets.proofs.judge_sda.Reads as reads
-use Rattle.triplets.proofs.judge_sda.Lts as lts
-use Rattle.triplets.proofs.item_count.Reads as item-count-reads
-use Rattle.triplets.proofs.refusal.Reads as refusal-reads
-use Rattle.triplets.proofs.sda_good.Reads as sda-good-reads
-use Rattle.triplets.proofs.sda_length.Reads as sda-length-reads
-use Rattle.triplets.proofs.wide.Reads as wide-reads
 
--- src/lib.rt:126:9
 sda-length-requires : tie.Need-sda-length-requires
 sda-length-requires c κs = search needs
 
--- src/lib.rt:127:9
 refusal-requires : tie.Need-refusal-requires
 refusal-requires c κs = search needs
 
--- src/lib.rt:127:9
 returns : tie.Need-returns
 returns c = search (sda-bad-length, not-true)
 
--- src/lib.rt:129:9
 sda-good-requires : tie.Need-sda-good-requires
 sda-good-requires c κs = search (is-true, not-false)
 
--- src/lib.rt:130:9
 refusal-requires-2 : tie.Need-refusal-requires-2
 refusal-requires-2 c κs = search needs
 
--- src/lib.rt:130:9
 returns-2 : tie.Need-returns-2
 returns-2 c = search (sda-bad, not-true, not-false)
 
--- src/lib.rt:132:19
 shared-slice-read-wide : tie.Need-shared-slice-read-wide
 shared-slice-read-wide c = search (needs, has, is-true, not-false)
 
--- src/lib.rt:132:9
 wide-requires : tie.Need-wide-requires
 wide-requires c κs = search needs
 
--- src/lib.rt:133:8
 mul-if3 : tie.Need-mul-if3
 mul-if3 c = search needs
 
--- src/lib.rt:133:8
 element-copy-out-if3 : tie.Need-element-copy-out-if3
 element-copy-out-if3 c = search needs
 
--- src/lib.rt:134:9
 refusal-requires-3 : tie.Need-refusal-requires-3
 refusal-requires-3 c κs = search needs
 
--- src/lib.rt:134:9
 returns-3 : tie.Need-returns-3
 returns-3 c = search (sda-taken, not-false)
 
--- src/lib.rt:136:9
 item-count-requires : tie.Need-item-count-requires
 item-count-requires c κs = search (is-true, not-false)
 
--- src/lib.rt:138:9
 refusal-requires-4 : tie.Need-refusal-requires-4
 refusal-requires-4 c κs = search needs
 
--- src/lib.rt:138:9
 returns-4 : tie.Need-returns-4
 returns-4 c = search (needs, sda-many, not-false)
 
--- src/lib.rt:123:1
 returns-5 : tie.Need-returns-5
 returns-5 c = search (sda-fine, not-false)
 

@@ -2,19 +2,13 @@ use Rattle.triplets.proofs.Entries.{lower-none, lower-some}
 use borrow.Author.Needs.{needs}
 use Rattle.triplets.proofs.lower_of.Statement.{statement}
 use Rattle.triplets.proofs.lower_of.Tie as tie
-use Rattle.triplets.proofs.lower_of.Reads as reads
-use Rattle.triplets.proofs.lower_of.Lts as lts
-use Rattle.triplets.proofs.lower_product.Reads as lower-product-reads
 
--- src/lib.rt:331:9
 returns : tie.Need-returns
 returns c = search (lower-none)
 
--- src/lib.rt:333:5
 lower-product-requires : tie.Need-lower-product-requires
 lower-product-requires c κs = search needs
 
--- src/lib.rt:326:1
 returns-2 : tie.Need-returns-2
 returns-2 c = search (lower-some)
 

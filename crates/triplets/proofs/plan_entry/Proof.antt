@@ -3,109 +3,79 @@ use Rattle.triplets.proofs.Entries.{entry-way}
 use borrow.Author.Needs.{needs}
 use Rattle.triplets.proofs.plan_entry.Statement.{statement}
 use Rattle.triplets.proofs.plan_entry.Tie as tie
-use Rattle.triplets.proofs.plan_entry.Reads as reads
-use Rattle.triplets.proofs.plan_entry.Lts as lts
-use Rattle.triplets.proofs.wide64.Reads as wide64-reads
-use Rattle.field_types.proofs.row_of.Reads as row-of-reads
-use Rattle.field_types.proofs.rule_at.Reads as rule-at-reads
 
--- src/lib.rt:315:57
 shared-slice-read-row-of : tie.Need-shared-slice-read-row-of
 shared-slice-read-row-of c = search (needs, has)
 
--- src/lib.rt:315:37
 row-of-requires : tie.Need-row-of-requires
 row-of-requires c κs = search needs
 
--- src/lib.rt:315:9
 rule-at-requires : tie.Need-rule-at-requires
 rule-at-requires c κs = search needs
 
--- src/lib.rt:316:9
 wide64-requires : tie.Need-wide64-requires
 wide64-requires c κs = search needs
 
--- src/lib.rt:317:23
 shared-slice-read-wide64 : tie.Need-shared-slice-read-wide64
 shared-slice-read-wide64 c = search (needs, has)
 
--- src/lib.rt:317:16
 wide64-requires-2 : tie.Need-wide64-requires-2
 wide64-requires-2 c κs = search needs
 
--- src/lib.rt:317:31
 mul-mode : tie.Need-mul-mode
 mul-mode c = search needs
 
--- src/lib.rt:317:16
 add-mode : tie.Need-add-mode
 add-mode c = search needs
 
--- src/lib.rt:318:23
 shared-slice-read-wide64-2 : tie.Need-shared-slice-read-wide64-2
 shared-slice-read-wide64-2 c = search (needs, has)
 
--- src/lib.rt:318:16
 wide64-requires-3 : tie.Need-wide64-requires-3
 wide64-requires-3 c κs = search needs
 
--- src/lib.rt:318:31
 mul-code : tie.Need-mul-code
 mul-code c = search needs
 
--- src/lib.rt:318:16
 add-code : tie.Need-add-code
 add-code c = search needs
 
--- src/lib.rt:319:21
 shared-slice-read-wide64-3 : tie.Need-shared-slice-read-wide64-3
 shared-slice-read-wide64-3 c = search (needs, has)
 
--- src/lib.rt:319:14
 wide64-requires-4 : tie.Need-wide64-requires-4
 wide64-requires-4 c κs = search needs
 
--- src/lib.rt:319:29
 mul-id : tie.Need-mul-id
 mul-id c = search needs
 
--- src/lib.rt:319:14
 add-id : tie.Need-add-id
 add-id c = search needs
 
--- src/lib.rt:320:25
 shared-slice-read-wide64-4 : tie.Need-shared-slice-read-wide64-4
 shared-slice-read-wide64-4 c = search (needs, has)
 
--- src/lib.rt:320:18
 wide64-requires-5 : tie.Need-wide64-requires-5
 wide64-requires-5 c κs = search needs
 
--- src/lib.rt:320:18
 mul-length : tie.Need-mul-length
 mul-length c = search needs
 
--- src/lib.rt:320:47
 shared-slice-read-wide64-5 : tie.Need-shared-slice-read-wide64-5
 shared-slice-read-wide64-5 c = search (needs, has)
 
--- src/lib.rt:320:40
 wide64-requires-6 : tie.Need-wide64-requires-6
 wide64-requires-6 c κs = search needs
 
--- src/lib.rt:320:18
 add-length : tie.Need-add-length
 add-length c = search needs
 
--- src/lib.rt:321:14
 mul-result : tie.Need-mul-result
 mul-result c = search needs
 
--- src/lib.rt:321:5
 add-result : tie.Need-add-result
 add-result c = search needs
 
--- src/lib.rt:311:1
 returns : tie.Need-returns
 returns c = search (entry-way, at-least-12)
 

@@ -1,14 +1,10 @@
 use Rattle.fdoca.proofs.Tests.{tests}
 use Rattle.triplets.proofs.row_length.Statement.{statement}
 use Rattle.triplets.proofs.row_length.Tie as tie
-use Rattle.triplets.proofs.row_length.Reads as reads
-use Rattle.triplets.proofs.row_length.Lts as lts
 
--- src/lib.rt:77:9
 returns : tie.Need-returns
 returns c = search tests
 
--- src/lib.rt:72:1
 returns-2 : tie.Need-returns-2
 returns-2 c = search tests
 

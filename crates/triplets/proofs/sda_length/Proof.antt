@@ -1,26 +1,19 @@
 use Rattle.fdoca.proofs.Tests.{tests}
 use Rattle.triplets.proofs.sda_length.Statement.{statement}
 use Rattle.triplets.proofs.sda_length.Tie as tie
-use Rattle.triplets.proofs.sda_length.Reads as reads
-use Rattle.triplets.proofs.sda_length.Lts as lts
 
--- src/lib.rt:57:9
 returns : tie.Need-returns
 returns c = search tests
 
--- src/lib.rt:60:9
 returns-2 : tie.Need-returns-2
 returns-2 c = search tests
 
--- src/lib.rt:63:9
 returns-3 : tie.Need-returns-3
 returns-3 c = search tests
 
--- src/lib.rt:66:9
 returns-4 : tie.Need-returns-4
 returns-4 c = search tests
 
--- src/lib.rt:52:1
 returns-5 : tie.Need-returns-5
 returns-5 c = search tests
 

@@ -2,22 +2,16 @@ use Rattle.triplets.proofs.Sums.{total-over, total-fine}
 use borrow.Author.Needs.{needs}
 use Rattle.triplets.proofs.total.Statement.{statement}
 use Rattle.triplets.proofs.total.Tie as tie
-use Rattle.triplets.proofs.total.Reads as reads
-use Rattle.triplets.proofs.total.Lts as lts
 
--- src/lib.rt:151:8
 sub-if1 : tie.Need-sub-if1
 sub-if1 c = search needs
 
--- src/lib.rt:152:9
 returns : tie.Need-returns
 returns c = search (needs, total-over)
 
--- src/lib.rt:159:16
 add-t3 : tie.Need-add-t3
 add-t3 c = search needs
 
--- src/lib.rt:147:1
 returns-2 : tie.Need-returns-2
 returns-2 c = search (total-fine)
 
