@@ -1,0 +1,216 @@
+/*
+ * The kiosk's panel: reads a block file, checks its descriptor, lists the items of its block, and sums a column of whole
+ * numbers.
+ *
+ *     panel FILE [ID]
+ *
+ * A block file holds the descriptor's size and the data's size, four bytes each, most significant byte first, then the
+ * descriptor, then the data. The column is every item whose SDA has the id ID, 1 to 255, written as 177 or 0xB1. A refusal
+ * is told in words, with its number and place, on standard error. Exit status: 0 all accepted; 1 a refusal; 2 anything else
+ * that went wrong.
+ */
+#include <inttypes.h>
+#include <stdbool.h>
+#include <stdint.h>
+#include <stdio.h>
+#include <stdlib.h>
+
+#include "fdoca.h"
+
+enum { ACCEPTED = 0, REFUSED = 1, UNUSABLE = 2 };
+
+/* The data lie right behind the descriptor, in the same allocation. */
+struct block {
+    uint8_t *descriptor;
+    size_t descriptor_size;
+    uint8_t *data;
+    size_t data_size;
+};
+
+struct column {
+    uint32_t items;
+    uint32_t nulls;
+    int64_t sum;
+};
+
+static int refused(const char *what, uint32_t number, uint32_t place)
+{
+    fprintf(stderr, "%s refused: %s (number %" PRIu32 ", place %" PRIu32 ")\n", what, fdoca_text(number), number, place);
+    return REFUSED;
+}
+
+static int unusable(const char *why)
+{
+    fprintf(stderr, "%s\n", why);
+    return UNUSABLE;
+}
+
+static uint32_t big_endian(const uint8_t bytes[4])
+{
+    return (uint32_t)bytes[0] << 24 | (uint32_t)bytes[1] << 16 | (uint32_t)bytes[2] << 8 | bytes[3];
+}
+
+static int bad_file(FILE *file)
+{
+    return ferror(file) ? unusable("the file cannot be read") : refused("file", FDOCA_BAD_FILE, 0);
+}
+
+/* Reads what follows the sizes, which are within their limits. One byte more is asked for, to see a file that goes on. */
+static int read_parts(FILE *file, size_t descriptor_size, size_t data_size, struct block *block)
+{
+    size_t size = descriptor_size + data_size;
+    uint8_t *bytes = malloc(size + 1);
+
+    if (bytes == NULL)
+        return unusable("out of memory");
+    if (fread(bytes, 1, size + 1, file) != size) {
+        free(bytes);
+        return bad_file(file);
+    }
+    *block = (struct block){bytes, descriptor_size, bytes + descriptor_size, data_size};
+    return ACCEPTED;
+}
+
+static int read_block(FILE *file, struct block *block)
+{
+    uint8_t head[8];
+
+    if (fread(head, 1, sizeof head, file) != sizeof head)
+        return bad_file(file);
+
+    uint32_t descriptor_size = big_endian(head);
+    uint32_t data_size = big_endian(head + 4);
+
+    if (descriptor_size > FDOCA_MAX_DESCRIPTOR || data_size > FDOCA_MAX_DATA)
+        return refused("file", FDOCA_SIZE_LIMIT, 0);
+    return read_parts(file, descriptor_size, data_size, block);
+}
+
+static int load(const char *name, struct block *block)
+{
+    FILE *file = fopen(name, "rb");
+
+    if (file == NULL) {
+        perror(name);
+        return UNUSABLE;
+    }
+
+    int status = read_block(file, block);
+
+    fclose(file);
+    return status;
+}
+
+static void print_list(const uint32_t *list)
+{
+    printf("items %" PRIu32 " bytes %" PRIu32 "\n", list[0], list[1]);
+    for (uint32_t k = 0; k < list[0]; k++)
+        printf("item %" PRIu32 " start %" PRIu32 " id %" PRIu32 "\n", k, fdoca_item_start(list, k), fdoca_item_id(list, k));
+}
+
+static bool add(int64_t *sum, int64_t value)
+{
+    if (value > 0 ? *sum > INT64_MAX - value : *sum < INT64_MIN - value)
+        return false;
+    *sum += value;
+    return true;
+}
+
+static int add_item(const struct block *block, uint32_t item, struct column *column)
+{
+    uint32_t place, is_null;
+    int64_t value;
+    uint32_t number = fdoca_whole_number(block->descriptor, block->descriptor_size, block->data, block->data_size, item,
+                                         &place, &is_null, &value);
+
+    if (number != FDOCA_ACCEPTED)
+        return refused("column", number, place);
+    if (!add(&column->sum, value))
+        return unusable("the sum does not fit 64 bits");
+    column->items++;
+    column->nulls += is_null;
+    return ACCEPTED;
+}
+
+static int print_sum(const struct block *block, const uint32_t *list, uint32_t id)
+{
+    struct column column = {0, 0, 0};
+
+    for (uint32_t k = 0; k < list[0]; k++) {
+        if (fdoca_item_id(list, k) != id)
+            continue;
+
+        int status = add_item(block, k, &column);
+
+        if (status != ACCEPTED)
+            return status;
+    }
+    printf("id %" PRIu32 " items %" PRIu32 " nulls %" PRIu32 " sum %" PRId64 "\n", id, column.items, column.nulls,
+           column.sum);
+    return ACCEPTED;
+}
+
+/* The list's room is measured by the check, so the list call never finds it too small. */
+static int show_items(const struct block *block, uint32_t items, uint32_t id)
+{
+    uint32_t place;
+    size_t list_size = FDOCA_LIST_SIZE(items);
+    uint32_t *list = malloc(list_size * sizeof *list);
+
+    if (list == NULL)
+        return unusable("out of memory");
+
+    uint32_t number = fdoca_list(block->descriptor, block->descriptor_size, block->data, block->data_size, list,
+                                 list_size, &place);
+    int status = ACCEPTED;
+
+    if (number != FDOCA_ACCEPTED) {
+        status = refused("block", number, place);
+    } else {
+        print_list(list);
+        if (id != 0)
+            status = print_sum(block, list, id);
+    }
+    free(list);
+    return status;
+}
+
+static int show(const struct block *block, uint32_t id)
+{
+    uint32_t place, items;
+    uint32_t number = fdoca_check(block->descriptor, block->descriptor_size, &place, &items);
+
+    if (number != FDOCA_ACCEPTED)
+        return refused("descriptor", number, place);
+    return show_items(block, items, id);
+}
+
+static bool parse_id(const char *word, uint32_t *id)
+{
+    char *end;
+    bool hexadecimal = word[0] == '0' && word[1] == 'x';
+    unsigned long value = strtoul(word, &end, hexadecimal ? 16 : 10);
+
+    if (word[0] < '0' || word[0] > '9' || *end != '\0' || value < 1 || value > 255)
+        return false;
+    *id = (uint32_t)value;
+    return true;
+}
+
+int main(int argc, char **argv)
+{
+    uint32_t id = 0; /* no item has it: no column is asked for */
+    struct block block = {NULL, 0, NULL, 0};
+
+    if (argc < 2 || argc > 3 || (argc == 3 && !parse_id(argv[2], &id)))
+        return unusable("usage: panel FILE [ID], with ID from 1 to 255");
+
+    int status = load(argv[1], &block);
+
+    if (status == ACCEPTED)
+        status = show(&block, id);
+    free(block.descriptor);
+    if (fflush(stdout) != 0)
+        return unusable("the listing cannot be written");
+    return status;
+}

@@ -1,0 +1,238 @@
+/*
+ * Reads FD:OCA data blocks: checks a descriptor, lists the items of a block that it describes, reads a whole-number item.
+ *
+ * Every call returns a number: 0 if it accepts what it was given, else the first reason to refuse it (enum fdoca_number).
+ * With a refusal goes a place, an offset in the descriptor or in the data, as told there. Every result is written, also on
+ * a refusal: then count, null mark and value are 0. Only a list keeps its old contents on a refusal.
+ *
+ * A call takes any bytes, allocates nothing and keeps nothing for the next call. Several threads may make calls at once.
+ *
+ * What must hold of the pointers:
+ *   - Each is valid for its size, also if the size is 0: NULL is not. A caller that may have NULL where a size is 0 makes
+ *     the calls fdoca_.._null_ok at the end of this file.
+ *   - Those that a call writes through (list, place, items, is_null, value) overlap neither each other nor anything else
+ *     that the call is given. What they point to need not be initialized.
+ */
+#ifndef FDOCA_H
+#define FDOCA_H
+
+#include <stddef.h>
+#include <stdint.h>
+
+#ifdef __cplusplus
+extern "C" {
+#endif
+
+/* The limits: bytes of a descriptor, bytes of a data block, items that a descriptor describes. */
+#define FDOCA_MAX_DESCRIPTOR 4096
+#define FDOCA_MAX_DATA 32768
+#define FDOCA_MAX_ITEMS 4096
+
+/* The entries that a list of n items takes, and those of the largest list: 8,194. */
+#define FDOCA_LIST_SIZE(n) (2 + 2 * (size_t)(n))
+#define FDOCA_MAX_LIST FDOCA_LIST_SIZE(FDOCA_MAX_ITEMS)
+
+/*
+ * The numbers, and the place that goes with each. A descriptor is a run of triplets: SDA (Simple Data Array, X'70'),
+ * RLO (Row Layout, X'71'), ISD (Implementation Support Data, X'7E') and CPT (Continue Preceding Triplet, X'7F'). An RLO
+ * and its CPTs hold groups: an id, elements taken, a repetition factor. A triplet's place is its offset in the descriptor,
+ * an item's is its offset in the data. "Exception" is the standard's exception-id.
+ *
+ * The reasons are tried in this order: 1; the triplets from left to right, each by rising number from 2 to 10, with 8, 9
+ * and 10 taken group by group; 11; 12; the items in order, by 13 to 15; 16; 17; 18.
+ */
+enum fdoca_number {
+    /* Nothing is wrong. Place: 0. */
+    FDOCA_ACCEPTED = 0,
+
+    /* The descriptor or the data are over their limit. Place: 0. */
+    FDOCA_SIZE_LIMIT = 1,
+
+    /* A triplet's LENGTH is below 2 or goes past the end of the descriptor. Place: the triplet. */
+    FDOCA_TRIPLET_TRUNCATED = 2,
+
+    /* A triplet is no SDA, RLO, ISD or CPT (exception 02). Place: the triplet. */
+    FDOCA_UNRECOGNIZED_TYPE = 3,
+
+    /* A CPT follows neither an RLO nor a CPT, or an ISD is not the first triplet (exception 13). Place: the triplet. */
+    FDOCA_WRONG_POSITION = 4,
+
+    /* A triplet's LENGTH is none that its form has. Place: the triplet. */
+    FDOCA_INVALID_LENGTH = 5,
+
+    /* An SDA's or RLO's own id is 0, a field type has no rule, its parameters do not fit the rule, an extent is 0, or a
+     * CPT or an ISD has wrong contents. Place: the triplet. */
+    FDOCA_PARAMETER_NOT_ACCEPTABLE = 6,
+
+    /* An SDA's or RLO's id was described before. Place: the triplet. */
+    FDOCA_DUPLICATE_ID = 7,
+
+    /* A group refers to an id that is not described yet (exception 03). Place: the group's triplet. */
+    FDOCA_UNDEFINED_ID = 8,
+
+    /* A group's repetition factor is 0, or it takes elements of an RLO or of an SDA without extents. Place: the group's
+     * triplet. */
+    FDOCA_UNSUPPORTED_GROUP = 9,
+
+    /* An SDA, or an RLO up to a group, has over FDOCA_MAX_ITEMS items. Place: the SDA, or the group's triplet. */
+    FDOCA_TOO_MANY_ITEMS = 10,
+
+    /* The descriptor has neither an SDA nor an RLO. Place: the descriptor's length. */
+    FDOCA_DESCRIPTOR_MISSING = 11,
+
+    /* The list has fewer than FDOCA_LIST_SIZE(n) entries for n items. Place: 0. */
+    FDOCA_LIST_TOO_SMALL = 12,
+
+    /* The data end before an item does. Place: the item. */
+    FDOCA_DATA_TRUNCATED = 13,
+
+    /* An item's length is negative, or over its field length where that is above 0. Place: the item. */
+    FDOCA_LENGTH_OUT_OF_RANGE = 14,
+
+    /* A null-terminated item of a field length F above 0 has no zero byte among its first F + 1. Place: the item. */
+    FDOCA_UNTERMINATED = 15,
+
+    /* Bytes follow the last item. Place: the first of them in the data. */
+    FDOCA_TRAILING_DATA = 16,
+
+    /* The block has no item of that number. Place: 0. */
+    FDOCA_NO_SUCH_ITEM = 17,
+
+    /* The item, null or not, is of a type other than a whole number. Place: the item. */
+    FDOCA_WRONG_TYPE = 18,
+
+    /* For programs that read a block from a file: the file does not fit the sizes that it starts with. No call gives
+     * this number. Place: 0. */
+    FDOCA_BAD_FILE = 19
+};
+
+/*
+ * Checks a descriptor.
+ *
+ * items: how many items it describes.
+ * Refuses by 1 to 11.
+ */
+uint32_t fdoca_check(const uint8_t *descriptor, size_t descriptor_size, uint32_t *place, uint32_t *items);
+
+/*
+ * Lists the items of a block.
+ *
+ * list: for a block of n items, numbered from 0, the call writes
+ *     list[0]              n
+ *     list[1]              the block's length in bytes
+ *     list[2 + k]          the start of item k, an offset in the data
+ *     list[2 + n + k]      the id of item k's SDA
+ * and leaves every entry beyond as it is. On a refusal it leaves the whole list as it is.
+ * list_size: how many entries of 32 bits the list has, at least FDOCA_LIST_SIZE(n). FDOCA_MAX_LIST is enough for any block.
+ * Refuses by 1 to 16.
+ */
+uint32_t fdoca_list(const uint8_t *descriptor, size_t descriptor_size, const uint8_t *data, size_t data_size,
+                    uint32_t *list, size_t list_size, uint32_t *place);
+
+/*
+ * Reads a whole number.
+ *
+ * item: the item's number, from 0.
+ * is_null: 1 if the item is null, else 0.
+ * value: the item's value, 0 if it is null.
+ * Refuses by 1 to 11 and 13 to 18.
+ */
+uint32_t fdoca_whole_number(const uint8_t *descriptor, size_t descriptor_size, const uint8_t *data, size_t data_size,
+                            uint32_t item, uint32_t *place, uint32_t *is_null, int64_t *value);
+
+/* The start of item k in a list that a call wrote, and the id of the item's SDA. k is below list[0]. */
+static inline uint32_t fdoca_item_start(const uint32_t *list, uint32_t k)
+{
+    return list[2 + (size_t)k];
+}
+
+static inline uint32_t fdoca_item_id(const uint32_t *list, uint32_t k)
+{
+    return list[2 + (size_t)list[0] + k];
+}
+
+/* A number in words. */
+static inline const char *fdoca_text(uint32_t number)
+{
+    switch (number) {
+    case FDOCA_ACCEPTED:
+        return "accepted";
+    case FDOCA_SIZE_LIMIT:
+        return "descriptor or data over the size limit";
+    case FDOCA_TRIPLET_TRUNCATED:
+        return "triplet truncated";
+    case FDOCA_UNRECOGNIZED_TYPE:
+        return "triplet type not recognized";
+    case FDOCA_WRONG_POSITION:
+        return "triplet at the wrong position";
+    case FDOCA_INVALID_LENGTH:
+        return "triplet length not valid";
+    case FDOCA_PARAMETER_NOT_ACCEPTABLE:
+        return "parameter value not acceptable";
+    case FDOCA_DUPLICATE_ID:
+        return "id described twice";
+    case FDOCA_UNDEFINED_ID:
+        return "reference to an id that is not described yet";
+    case FDOCA_UNSUPPORTED_GROUP:
+        return "row layout group not supported";
+    case FDOCA_TOO_MANY_ITEMS:
+        return "too many items";
+    case FDOCA_DESCRIPTOR_MISSING:
+        return "descriptor describes nothing";
+    case FDOCA_LIST_TOO_SMALL:
+        return "item list too small";
+    case FDOCA_DATA_TRUNCATED:
+        return "data end within an item";
+    case FDOCA_LENGTH_OUT_OF_RANGE:
+        return "item length out of range";
+    case FDOCA_UNTERMINATED:
+        return "item not terminated";
+    case FDOCA_TRAILING_DATA:
+        return "data go on after the last item";
+    case FDOCA_NO_SUCH_ITEM:
+        return "no such item";
+    case FDOCA_WRONG_TYPE:
+        return "item is no whole number";
+    case FDOCA_BAD_FILE:
+        return "file does not fit its sizes";
+    default:
+        return "unknown number";
+    }
+}
+
+/*
+ * The same calls, for a caller whose descriptor, data or list may be NULL, or point to nothing, where its size is 0.
+ */
+static inline uint32_t fdoca_check_null_ok(const uint8_t *descriptor, size_t descriptor_size, uint32_t *place,
+                                           uint32_t *items)
+{
+    const uint8_t none = 0;
+
+    return fdoca_check(descriptor_size == 0 ? &none : descriptor, descriptor_size, place, items);
+}
+
+static inline uint32_t fdoca_list_null_ok(const uint8_t *descriptor, size_t descriptor_size, const uint8_t *data,
+                                          size_t data_size, uint32_t *list, size_t list_size, uint32_t *place)
+{
+    const uint8_t none = 0;
+    uint32_t no_entry = 0;
+
+    return fdoca_list(descriptor_size == 0 ? &none : descriptor, descriptor_size, data_size == 0 ? &none : data,
+                      data_size, list_size == 0 ? &no_entry : list, list_size, place);
+}
+
+static inline uint32_t fdoca_whole_number_null_ok(const uint8_t *descriptor, size_t descriptor_size,
+                                                  const uint8_t *data, size_t data_size, uint32_t item,
+                                                  uint32_t *place, uint32_t *is_null, int64_t *value)
+{
+    const uint8_t none = 0;
+
+    return fdoca_whole_number(descriptor_size == 0 ? &none : descriptor, descriptor_size,
+                              data_size == 0 ? &none : data, data_size, item, place, is_null, value);
+}
+
+#ifdef __cplusplus
+}
+#endif
+
+#endif

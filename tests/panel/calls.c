@@ -1,0 +1,533 @@
+/*
+ * Tests of the C calls. Descriptors and data are written in hexadecimal. The last line printed is "N passed, M failed", and
+ * the exit status is 0 if none failed.
+ */
+#include <inttypes.h>
+#include <stdbool.h>
+#include <stdint.h>
+#include <stdio.h>
+#include <stdlib.h>
+#include <string.h>
+
+#include "fdoca.h"
+
+#define COUNT(array) (sizeof(array) / sizeof *(array))
+
+/* SDAs of id B1 without extents, of a field type and a field length; V is variable bytes, Z null-terminated bytes. */
+#define S(type, length) "0C70B1" type "000000000000" length
+#define V(mode, length) "0C70B102" "0000000000" mode length
+#define Z(mode, length) "0C70B103" "0000000000" mode length
+
+/* What is behind every pointer before a call. */
+#define OLD 0xA5A5A5A5u
+#define OLD_VALUE INT64_C(-0x5A5A5A5A5A5A5A5B)
+
+/* Entries behind the list that a call is not told of. */
+#define GUARD 64
+
+struct bytes {
+    uint8_t *at;
+    size_t size;
+};
+
+static unsigned passed, failed;
+
+static void expect(bool good, const char *group, const char *name)
+{
+    if (good) {
+        passed++;
+    } else {
+        failed++;
+        printf("failed: %s: %s\n", group, name);
+    }
+}
+
+static void *room(size_t size)
+{
+    void *at = malloc(size == 0 ? 1 : size);
+
+    if (at == NULL) {
+        printf("out of memory\n");
+        exit(1);
+    }
+    return at;
+}
+
+static struct bytes zeros(size_t size)
+{
+    struct bytes bytes = {room(size), size};
+
+    memset(bytes.at, 0, size);
+    return bytes;
+}
+
+static unsigned digit(char c)
+{
+    return c <= '9' ? (unsigned)(c - '0') : (unsigned)(c - 'A') + 10;
+}
+
+static struct bytes hex(const char *text)
+{
+    struct bytes bytes = zeros(strlen(text) / 2);
+
+    for (size_t i = 0; i < bytes.size; i++)
+        bytes.at[i] = (uint8_t)(16 * digit(text[2 * i]) + digit(text[2 * i + 1]));
+    return bytes;
+}
+
+static uint32_t *old_list(size_t size)
+{
+    uint32_t *list = room((size + GUARD) * sizeof *list);
+
+    for (size_t i = 0; i < size + GUARD; i++)
+        list[i] = OLD;
+    return list;
+}
+
+static bool still_old(const uint32_t *list, size_t from, size_t size)
+{
+    for (size_t i = from; i < size + GUARD; i++)
+        if (list[i] != OLD)
+            return false;
+    return true;
+}
+
+/* ---- one call each, with all that it gives */
+
+static bool check_gives(struct bytes d, uint32_t number, uint32_t place, uint32_t items)
+{
+    uint32_t got_place = OLD, got_items = OLD;
+    uint32_t got = fdoca_check(d.at, d.size, &got_place, &got_items);
+
+    return got == number && got_place == place && got_items == items;
+}
+
+static bool list_refuses(struct bytes d, struct bytes s, size_t list_size, uint32_t number, uint32_t place)
+{
+    uint32_t got_place = OLD;
+    uint32_t *list = old_list(list_size);
+    uint32_t got = fdoca_list(d.at, d.size, s.at, s.size, list, list_size, &got_place);
+    bool good = got == number && got_place == place && still_old(list, 0, list_size);
+
+    free(list);
+    return good;
+}
+
+/* The list of `size` entries holds `expected` of them, and its old contents beyond. */
+static bool list_gives(struct bytes d, struct bytes s, size_t size, const uint32_t *expected, size_t expected_size)
+{
+    uint32_t got_place = OLD;
+    uint32_t *list = old_list(size);
+    uint32_t got = fdoca_list(d.at, d.size, s.at, s.size, list, size, &got_place);
+    bool good = got == 0 && got_place == 0 && memcmp(list, expected, expected_size * sizeof *list) == 0 &&
+                still_old(list, expected_size, size);
+
+    free(list);
+    return good;
+}
+
+static bool whole_gives(struct bytes d, struct bytes s, uint32_t item, uint32_t number, uint32_t place, uint32_t is_null,
+                        int64_t value)
+{
+    uint32_t got_place = OLD, got_null = OLD;
+    int64_t got_value = OLD_VALUE;
+    uint32_t got = fdoca_whole_number(d.at, d.size, s.at, s.size, item, &got_place, &got_null, &got_value);
+
+    return got == number && got_place == place && got_null == is_null && got_value == value;
+}
+
+/* ---- descriptors: number, place and items of the check */
+
+struct check_case {
+    const char *name;
+    const char *descriptor;
+    uint32_t number, place, items;
+};
+
+static const struct check_case checks[] = {
+    {"one field", S("01", "0003"), 0, 0, 1},
+    {"a row of two", S("01", "0003") "0671A1B10002", 0, 0, 2},
+    {"ISD before a field", "057E000100" S("01", "0003"), 0, 0, 1},
+    {"row and continuation", S("01", "0003") "0671A1B10002" "067F00B10003", 0, 0, 5},
+    {"three extents", "1270B1010000000000000001000200030002", 0, 0, 12},
+    {"more elements than the extent", "0E70B10100000000000000010003" "0671A1B10502", 0, 0, 10},
+    {"64 times 64", S("01", "0003") "0671A1B10040" "0671A2A10040", 0, 0, 4096},
+    {"LENGTH 1", "0170", 2, 0, 0},
+    {"LENGTH past the end", S("01", "0003") "0671A1B100", 2, 12, 0},
+    {"unknown construct", S("01", "0003") "0672A1B10001", 3, 12, 0},
+    {"CPT first", "067F00B10001", 4, 0, 0},
+    {"ISD after a field", S("01", "0003") "057E000100", 4, 12, 0},
+    {"short SDA", "0470B101", 5, 0, 0},
+    {"RLO without a group", S("01", "0003") "0371A1", 5, 12, 0},
+    {"SDA id 0", "0C7000010000000000000003", 6, 0, 0},
+    {"type without a rule", S("22", "0002"), 6, 0, 0},
+    {"whole number of 3 bytes", S("23", "0003"), 6, 0, 0},
+    {"extent 0", "0E70B10100000000000000010000", 6, 0, 0},
+    {"id twice", S("01", "0003") S("01", "0004"), 7, 12, 0},
+    {"reference to itself", "0671A1A10001", 8, 0, 0},
+    {"later id", "0671A1B10001" S("01", "0003"), 8, 0, 0},
+    {"repetition 0", S("01", "0003") "0671A1B10000", 9, 12, 0},
+    {"elements of an SDA without extents", S("01", "0003") "0671A1B10101", 9, 12, 0},
+    {"65 times 64", S("01", "0003") "0671A1B10040" "0671A2A10041", 10, 18, 0},
+    {"extent 4097", "0E70B10100000000000000011001", 10, 0, 0},
+    {"nothing", "", 11, 0, 0},
+    {"ISD only", "057E000100", 11, 5, 0},
+};
+
+static void test_checks(void)
+{
+    for (size_t i = 0; i < COUNT(checks); i++) {
+        const struct check_case *c = &checks[i];
+        struct bytes d = hex(c->descriptor);
+
+        expect(check_gives(d, c->number, c->place, c->items), "check", c->name);
+        free(d.at);
+    }
+}
+
+/* What the check refuses, the other calls refuse too. */
+static void test_refused_descriptors(void)
+{
+    struct bytes none = zeros(0);
+
+    for (size_t i = 0; i < COUNT(checks); i++) {
+        const struct check_case *c = &checks[i];
+        struct bytes d = hex(c->descriptor);
+
+        if (c->number != 0) {
+            expect(list_refuses(d, none, FDOCA_MAX_LIST, c->number, c->place), "list, bad descriptor", c->name);
+            expect(list_refuses(d, none, 0, c->number, c->place), "empty list, bad descriptor", c->name);
+            expect(whole_gives(d, none, 0, c->number, c->place, 0, 0), "whole number, bad descriptor", c->name);
+        }
+        free(d.at);
+    }
+    free(none.at);
+}
+
+/* ---- blocks that are accepted: their items as runs of an id, a length and a count */
+
+struct run {
+    uint32_t id, length, count;
+};
+
+struct block_case {
+    const char *name;
+    const char *descriptor;
+    const char *data;
+    struct run runs[4];
+};
+
+static const struct block_case blocks[] = {
+    {"the dump's block", S("81", "0003") "0671A1B10002", "0061626380", {{0xB1, 4, 1}, {0xB1, 1, 1}}},
+    {"no bytes", S("01", "0000"), "", {{0xB1, 0, 1}}},
+    {"variable, L bytes", V("01", "0004"), "00024142", {{0xB1, 4, 1}}},
+    {"variable, F bytes", V("00", "0004"), "000241420000", {{0xB1, 6, 1}}},
+    {"null-terminated", Z("01", "0002"), "4100", {{0xB1, 2, 1}}},
+    {"whole number", S("23", "0002"), "FFFE", {{0xB1, 2, 1}}},
+};
+
+static const struct block_case figures[] = {
+    {"figure 3-6",
+     S("01", "0003") "0E70B20100000000000000010009" "0C71A1B10004B20401B20A02" "0671A2A10002",
+     "123456111476TEX2TEXXXXXXXXXXXXXXXXXX765234000238TEX5TEXXXXXXXXXXXXXXXXXX",
+     {{0xB1, 3, 4}, {0xB2, 1, 24}, {0xB1, 3, 4}, {0xB2, 1, 24}}},
+    {"figure 3-7",
+     "0E70B10100000000000000040007" "0C71A1B10801B10501B10703",
+     "7745122919472345123556813947123423711257127856811257237512372947234515375681494768141237124712344237548159475437"
+     "568123451237568119476234",
+     {{0xB1, 4, 34}}},
+    {"figure 3-8",
+     "0E70B10100000000000000010003" "0971A1B10101B10001" "0971A2B10001B10401" "0971A3B10201B10001" "0671A4B10002"
+     "0C71A5A10001A20001A30001" "0671A6A40003" "0971A7A50001A60001",
+     "abbbcccddddeefffggghhhiiijjjkkklll",
+     {{0xB1, 1, 34}}},
+};
+
+static uint32_t items_of(const struct run *runs)
+{
+    uint32_t items = 0;
+
+    for (size_t i = 0; i < 4; i++)
+        items += runs[i].count;
+    return items;
+}
+
+static uint32_t *list_of(const struct run *runs)
+{
+    uint32_t items = items_of(runs), item = 0, start = 0;
+    uint32_t *list = room(FDOCA_LIST_SIZE(items) * sizeof *list);
+
+    for (size_t i = 0; i < 4; i++) {
+        for (uint32_t k = 0; k < runs[i].count; k++) {
+            list[2 + item] = start;
+            list[2 + items + item] = runs[i].id;
+            start += runs[i].length;
+            item++;
+        }
+    }
+    list[0] = items;
+    list[1] = start;
+    return list;
+}
+
+static bool list_reads(const uint32_t *list)
+{
+    for (uint32_t k = 0; k < list[0]; k++)
+        if (fdoca_item_start(list, k) != list[2 + k] || fdoca_item_id(list, k) != list[2 + list[0] + k])
+            return false;
+    return true;
+}
+
+static void test_block(const char *name, struct bytes d, struct bytes s, const struct run *runs)
+{
+    uint32_t items = items_of(runs);
+    uint32_t *list = list_of(runs);
+    size_t size = FDOCA_LIST_SIZE(items);
+
+    expect(list[1] == s.size, "bytes", name);
+    expect(check_gives(d, 0, 0, items), "check of a block", name);
+    expect(list_gives(d, s, size, list, size), "list that just fits", name);
+    expect(list_gives(d, s, size + 5, list, size), "list with room to spare", name);
+    expect(list_refuses(d, s, size - 1, 12, 0), "list one entry short", name);
+    expect(list_refuses(d, s, 0, 12, 0), "list of no entries", name);
+    expect(list_reads(list), "start and id", name);
+    expect(whole_gives(d, s, items, 17, 0, 0, 0), "item past the last", name);
+    expect(whole_gives(d, s, UINT32_MAX, 17, 0, 0, 0), "largest item number", name);
+    free(list);
+}
+
+static void test_blocks(void)
+{
+    for (size_t i = 0; i < COUNT(blocks); i++) {
+        struct bytes d = hex(blocks[i].descriptor), s = hex(blocks[i].data);
+
+        test_block(blocks[i].name, d, s, blocks[i].runs);
+        free(d.at);
+        free(s.at);
+    }
+}
+
+static void test_figures(void)
+{
+    for (size_t i = 0; i < COUNT(figures); i++) {
+        struct bytes d = hex(figures[i].descriptor), s = zeros(strlen(figures[i].data));
+
+        memcpy(s.at, figures[i].data, s.size);
+        test_block(figures[i].name, d, s, figures[i].runs);
+        free(d.at);
+        free(s.at);
+    }
+}
+
+/* ---- data that are refused */
+
+struct refusal_case {
+    const char *name;
+    const char *descriptor;
+    const char *data;
+    uint32_t number, place;
+};
+
+static const struct refusal_case refusals[] = {
+    {"the dump's block cut", S("81", "0003") "0671A1B10002", "00616263", 13, 4},
+    {"the dump's block and one byte", S("81", "0003") "0671A1B10002", "006162638000", 16, 5},
+    {"variable, F bytes, cut", V("00", "0004"), "00024142", 13, 0},
+    {"L above F", V("01", "0004"), "0005", 14, 0},
+    {"L negative", V("00", "0000"), "FFFF", 14, 0},
+    {"no zero byte", Z("01", "0002"), "414243", 15, 0},
+    {"no zero byte yet", Z("01", "0002"), "4142", 13, 0},
+    {"second item without an end", Z("01", "0002") "0671A1B10002", "4100414243", 15, 2},
+    {"no data", S("23", "0002"), "", 13, 0},
+    {"surplus", S("01", "0000"), "00", 16, 0},
+};
+
+static void test_refusals(void)
+{
+    for (size_t i = 0; i < COUNT(refusals); i++) {
+        const struct refusal_case *c = &refusals[i];
+        struct bytes d = hex(c->descriptor), s = hex(c->data);
+
+        expect(list_refuses(d, s, FDOCA_MAX_LIST, c->number, c->place), "list", c->name);
+        expect(list_refuses(d, s, 0, 12, 0), "list too small before the data", c->name);
+        expect(whole_gives(d, s, 0, c->number, c->place, 0, 0), "whole number", c->name);
+        expect(whole_gives(d, s, 9, c->number, c->place, 0, 0), "no such item, but bad data first", c->name);
+        free(d.at);
+        free(s.at);
+    }
+}
+
+/* ---- whole numbers */
+
+struct whole_case {
+    const char *name;
+    const char *descriptor;
+    const char *data;
+    uint32_t item, number, place, is_null;
+    int64_t value;
+};
+
+static const struct whole_case wholes[] = {
+    {"-2", S("23", "0002"), "FFFE", 0, 0, 0, 0, -2},
+    {"-2 reversed", S("24", "0002"), "FEFF", 0, 0, 0, 0, -2},
+    {"258", S("23", "0002"), "0102", 0, 0, 0, 0, 258},
+    {"258 reversed", S("24", "0002"), "0201", 0, 0, 0, 0, 258},
+    {"2 bytes, least", S("23", "0002"), "8000", 0, 0, 0, 0, INT16_MIN},
+    {"2 bytes, most", S("23", "0002"), "7FFF", 0, 0, 0, 0, INT16_MAX},
+    {"2 bytes reversed, least", S("24", "0002"), "0080", 0, 0, 0, 0, INT16_MIN},
+    {"2 bytes reversed, most", S("24", "0002"), "FF7F", 0, 0, 0, 0, INT16_MAX},
+    {"4 bytes, least", S("23", "0004"), "80000000", 0, 0, 0, 0, INT32_MIN},
+    {"4 bytes, most", S("23", "0004"), "7FFFFFFF", 0, 0, 0, 0, INT32_MAX},
+    {"4 bytes, -1", S("23", "0004"), "FFFFFFFF", 0, 0, 0, 0, -1},
+    {"4 bytes reversed, least", S("24", "0004"), "00000080", 0, 0, 0, 0, INT32_MIN},
+    {"4 bytes reversed, most", S("24", "0004"), "FFFFFF7F", 0, 0, 0, 0, INT32_MAX},
+    {"8 bytes, least", S("23", "0008"), "8000000000000000", 0, 0, 0, 0, INT64_MIN},
+    {"8 bytes, most", S("23", "0008"), "7FFFFFFFFFFFFFFF", 0, 0, 0, 0, INT64_MAX},
+    {"8 bytes, 2 to the 32", S("23", "0008"), "0000000100000000", 0, 0, 0, 0, INT64_C(4294967296)},
+    {"8 bytes reversed, least", S("24", "0008"), "0000000000000080", 0, 0, 0, 0, INT64_MIN},
+    {"8 bytes reversed, most", S("24", "0008"), "FFFFFFFFFFFFFF7F", 0, 0, 0, 0, INT64_MAX},
+    {"8 bytes reversed, -1", S("24", "0008"), "FFFFFFFFFFFFFFFF", 0, 0, 0, 0, -1},
+    {"0", S("23", "0008"), "0000000000000000", 0, 0, 0, 0, 0},
+    {"nullable", S("A3", "0002"), "00FFFE", 0, 0, 0, 0, -2},
+    {"null", S("A3", "0002"), "80", 0, 0, 0, 1, 0},
+    {"null reversed", S("A4", "0008"), "FF", 0, 0, 0, 1, 0},
+    {"first of two", S("A3", "0002") "0671A1B10002", "00000780", 0, 0, 0, 0, 7},
+    {"second of two", S("A3", "0002") "0671A1B10002", "00000780", 1, 0, 0, 1, 0},
+    {"third of two", S("A3", "0002") "0671A1B10002", "00000780", 2, 17, 0, 0, 0},
+    {"bytes", S("01", "0002") "0671A1B10002", "00000000", 1, 18, 2, 0, 0},
+    {"null bytes", S("81", "0002") "0671A1B10002", "8080", 1, 18, 1, 0, 0},
+    {"float", S("48", "0008"), "4065E23D70A3D70A", 0, 18, 0, 0, 0},
+};
+
+static void test_wholes(void)
+{
+    for (size_t i = 0; i < COUNT(wholes); i++) {
+        const struct whole_case *c = &wholes[i];
+        struct bytes d = hex(c->descriptor), s = hex(c->data);
+
+        expect(whole_gives(d, s, c->item, c->number, c->place, c->is_null, c->value), "whole number", c->name);
+        free(d.at);
+        free(s.at);
+    }
+}
+
+/* ---- limits */
+
+static void test_largest_list(void)
+{
+    static const struct run runs[4] = {{0xB1, 8, 4096}};
+    struct bytes d = hex(S("23", "0008") "0671A1B10040" "0671A2A10040"), s = zeros(FDOCA_MAX_DATA);
+
+    s.at[FDOCA_MAX_DATA - 1] = 7;
+    expect(FDOCA_LIST_SIZE(items_of(runs)) == FDOCA_MAX_LIST, "limits", "entries of the largest list");
+    test_block("4,096 items in 32,768 bytes", d, s, runs);
+    expect(whole_gives(d, s, 4095, 0, 0, 0, 7), "limits", "last of 4,096 items");
+    free(d.at);
+    free(s.at);
+}
+
+static void test_oversize(void)
+{
+    struct bytes d = hex(S("01", "0000")), no_data = zeros(0), data = zeros(FDOCA_MAX_DATA + 1);
+    struct bytes largest = zeros(FDOCA_MAX_DESCRIPTOR), larger = zeros(FDOCA_MAX_DESCRIPTOR + 1);
+
+    expect(check_gives(largest, 2, 0, 0), "limits", "descriptor of 4,096 bytes");
+    expect(check_gives(larger, 1, 0, 0), "limits", "descriptor of 4,097 bytes");
+    expect(list_refuses(larger, no_data, FDOCA_MAX_LIST, 1, 0), "limits", "list, descriptor of 4,097 bytes");
+    expect(whole_gives(larger, no_data, 0, 1, 0, 0, 0), "limits", "whole number, descriptor of 4,097 bytes");
+    expect(list_refuses(d, data, FDOCA_MAX_LIST, 1, 0), "limits", "list, data of 32,769 bytes");
+    expect(list_refuses(largest, data, 0, 1, 0), "limits", "data of 32,769 bytes before a bad descriptor");
+    expect(whole_gives(d, data, 0, 1, 0, 0, 0), "limits", "whole number, data of 32,769 bytes");
+    free(d.at);
+    free(no_data.at);
+    free(data.at);
+    free(largest.at);
+    free(larger.at);
+}
+
+/* ---- the header's own functions */
+
+static void test_null_pointers(void)
+{
+    struct bytes d = hex(S("01", "0000")), number = hex(S("23", "0002")), s = hex("0007");
+    uint32_t place = OLD, items = OLD, is_null = OLD, list[4] = {OLD, OLD, OLD, OLD};
+    int64_t value = OLD_VALUE;
+    uint32_t got = fdoca_check_null_ok(NULL, 0, &place, &items);
+
+    expect(got == 11 && place == 0 && items == 0, "null", "check of no descriptor");
+    got = fdoca_check_null_ok(d.at, d.size, &place, &items);
+    expect(got == 0 && place == 0 && items == 1, "null", "check of a descriptor");
+
+    place = OLD;
+    got = fdoca_list_null_ok(NULL, 0, NULL, 0, NULL, 0, &place);
+    expect(got == 11 && place == 0, "null", "list of nothing");
+    got = fdoca_list_null_ok(d.at, d.size, NULL, 0, NULL, 0, &place);
+    expect(got == 12 && place == 0, "null", "no list");
+    got = fdoca_list_null_ok(d.at, d.size, NULL, 0, list, 4, &place);
+    expect(got == 0 && place == 0 && list[0] == 1 && list[1] == 0 && list[2] == 0 && list[3] == 0xB1, "null",
+           "list of no data");
+
+    place = OLD;
+    got = fdoca_whole_number_null_ok(NULL, 0, NULL, 0, 0, &place, &is_null, &value);
+    expect(got == 11 && place == 0 && is_null == 0 && value == 0, "null", "whole number of nothing");
+    got = fdoca_whole_number_null_ok(number.at, number.size, NULL, 0, 0, &place, &is_null, &value);
+    expect(got == 13 && place == 0 && is_null == 0 && value == 0, "null", "whole number of no data");
+    got = fdoca_whole_number_null_ok(number.at, number.size, s.at, s.size, 0, &place, &is_null, &value);
+    expect(got == 0 && place == 0 && is_null == 0 && value == 7, "null", "whole number");
+    free(d.at);
+    free(number.at);
+    free(s.at);
+}
+
+static const uint32_t numbers[] = {
+    FDOCA_ACCEPTED,
+    FDOCA_SIZE_LIMIT,
+    FDOCA_TRIPLET_TRUNCATED,
+    FDOCA_UNRECOGNIZED_TYPE,
+    FDOCA_WRONG_POSITION,
+    FDOCA_INVALID_LENGTH,
+    FDOCA_PARAMETER_NOT_ACCEPTABLE,
+    FDOCA_DUPLICATE_ID,
+    FDOCA_UNDEFINED_ID,
+    FDOCA_UNSUPPORTED_GROUP,
+    FDOCA_TOO_MANY_ITEMS,
+    FDOCA_DESCRIPTOR_MISSING,
+    FDOCA_LIST_TOO_SMALL,
+    FDOCA_DATA_TRUNCATED,
+    FDOCA_LENGTH_OUT_OF_RANGE,
+    FDOCA_UNTERMINATED,
+    FDOCA_TRAILING_DATA,
+    FDOCA_NO_SUCH_ITEM,
+    FDOCA_WRONG_TYPE,
+    FDOCA_BAD_FILE,
+};
+
+/* Each name has its number, and each number words of its own; those past the last share words that no other has. */
+static void test_words(void)
+{
+    expect(COUNT(numbers) == 20, "words", "20 numbers");
+    for (uint32_t n = 0; n < COUNT(numbers); n++) {
+        bool own = fdoca_text(n)[0] != '\0';
+
+        for (uint32_t m = 0; m < n; m++)
+            own = own && strcmp(fdoca_text(n), fdoca_text(m)) != 0;
+        expect(numbers[n] == n, "the number of", fdoca_text(n));
+        expect(own && strcmp(fdoca_text(n), fdoca_text(20)) != 0, "words", fdoca_text(n));
+    }
+    expect(strcmp(fdoca_text(20), fdoca_text(UINT32_MAX)) == 0, "words", "unknown numbers");
+}
+
+int main(void)
+{
+    test_checks();
+    test_refused_descriptors();
+    test_blocks();
+    test_figures();
+    test_refusals();
+    test_wholes();
+    test_largest_list();
+    test_oversize();
+    test_null_pointers();
+    test_words();
+    printf("%u passed, %u failed\n", passed, failed);
+    return failed == 0 && passed > 0 ? 0 : 1;
+}
