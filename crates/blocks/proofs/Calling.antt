@@ -9,7 +9,6 @@ use mathlib.Core.Option.{Option, none, some}
 use lib.Dec.{ltb}
 use lib.ListN.{length, getElem?}
 use borrow.Author.Tests.{lt-ltb, le-ltb, ltb-false}
-use Rattle.fdoca.specs.declared.Checked.{Checked}
 use Rattle.fdoca.specs.declared.Listed.{Listed}
 use Rattle.fdoca.specs.Basics.{Result, refuse, ok, _>>=_, _>>_, reject, the}
 use Rattle.fdoca.specs.Walk.{Note, walk}
@@ -19,6 +18,7 @@ use Rattle.fdoca.specs.Calls.{maxData, oversize, itemList, list, itemAt, checke
 use Rattle.fdoca.proofs.Results.{ok-reject}
 use Rattle.descriptors.specs.declared.Examined.{Examined}
 use Rattle.descriptors.specs.Holds.{Examination, Ready}
+use Rattle.descriptors.proofs.Callers.{refused-by}
 use Rattle.walks.specs.declared.Found.{Found}
 use Rattle.walks.specs.Finding.{foundOf, itemOf}
 use Rattle.blocks.specs.Answers.{itemsInto, ListedAs, FoundAs}
@@ -43,17 +43,6 @@ module _ {A : Type 0} (d s : List ℕ) (f : ℕ → Result A) where
       go : (b : Bool) → ltb maxDescriptor (length d) ≡ b → call ≡ (check d >>= f)
       go true e = rw e
       go false e = rw (e, le-ltb 32768 (length s) h)
-
--- what an examination tells of the check
-refused-by : (d s z e : List ℕ) (x : Examined) → Examination d s z e x → (x .number ≡ 0 → ⊥) → check d ≡ refuse (x .number) (x .place)
-refused-by d s z e x w h = go (check d) (w .same)
-  where
-    go : (c : Result ℕ) → record { number = x .number; place = x .place; items = x .items } ≡ checked c → c ≡ refuse (x .number) (x .place)
-    go (refuse n p) q =
-        let a : x .number ≡ n = ap (λ (y : Checked). y .number) q in
-        let b : x .place ≡ p = ap (λ (y : Checked). y .place) q in
-        rw (a, b)
-    go (ok n) q = absurd (h (ap (λ (y : Checked). y .number) q))
 
 module _ (d x old : List ℕ) where
   pub list-over : (r : Listed) → 32768 < length x → r ≡ record { number = 1; place = 0 } → ListedAs (list d x old) old r old

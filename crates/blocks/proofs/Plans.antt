@@ -4,8 +4,8 @@ use mathlib.Core.Path.{_≡_, refl, sym, ap, _∙_, subst}
 use Prim.Native.Nat.{ℕ, _+_, _*_, _≤_}
 use native.Mathlib.Omega.{arith}
 use mathlib.Core.List.{List, map}
-use lib.ListN.{length, take, length-map}
-use lib.Seq.{sets, length-sets, take-all}
+use lib.ListN.{length}
+use lib.Seq.{sets, length-sets}
 use Rattle.fdoca.specs.declared.Listed.{Listed}
 use Rattle.fdoca.specs.Basics.{Result, refuse, ok, _>>=_}
 use Rattle.fdoca.specs.Item.{Field}
@@ -14,9 +14,9 @@ use Rattle.fdoca.specs.Unfolding.{unfolded}
 use Rattle.fdoca.specs.Calls.{itemList}
 use Rattle.fdoca.proofs.Stops.{walk-number}
 use Rattle.plans.specs.Plan.{entryOf, Planned}
-use Rattle.plans.specs.Tied.{listOf, Known}
-use Rattle.plans.proofs.Fields.{planned, first-numbers}
+use Rattle.plans.specs.Tied.{listOf}
 use Rattle.descriptors.specs.Holds.{Ready}
+use Rattle.descriptors.proofs.Callers.{for-unfolding}
 use Rattle.walks.specs.declared.Stop.{Stop}
 use Rattle.walks.specs.declared.Found.{Found}
 use Rattle.walks.specs.Finding.{foundOf, itemOf}
@@ -25,30 +25,14 @@ use Rattle.walks.proofs.Callers.{as-many, all-noted, found-inside, found-state,
 use Rattle.blocks.specs.Answers.{itemsInto, ListedAs, FoundAs}
 
 module _ (d s z e plan : List ℕ) (id : ℕ) (rd : Ready d s z e id (length plan)) where
-  pub ready-known : Known d id
-  ready-known = rd .known
-
-  pub ready-room : length (listOf d id) ≤ length plan
-  ready-room = omega (arith, rd .count, ap length (rd .whole))
-
   module _ (plan′ : List ℕ) (written : plan′ ≡ sets plan 0 (map entryOf (listOf d id))) where
-    as-long : length (listOf d id) ≡ length plan
-    as-long = sym (ap length (rd .whole)) ∙ sym (rd .count)
-
-    pub is-plan : plan′ ≡ map entryOf (listOf d id)
-    is-plan =
-        let n : length (sets plan 0 (map entryOf (listOf d id))) ≡ length plan = length-sets plan 0 (map entryOf (listOf d id)) in
-        written
-        ∙ sym (take-all (length (listOf d id)) (sets plan 0 (map entryOf (listOf d id))) (omega (arith, as-long)))
-        ∙ first-numbers plan (listOf d id) ready-room
-
-    pub for-unfolding : Planned plan′ (unfolded d)
-    for-unfolding = rw (is-plan, rd .whole) (planned d s z e (rd .tied) id (rd .known))
+    planned : Planned plan′ (unfolded d)
+    planned = for-unfolding d s z e plan id rd plan′ written
 
     pub found-way : (x : List ℕ) (k : ℕ) (r : Found) → length x ≤ 32768 → ((fs : List Field) → Planned plan′ fs → r ≡ foundOf (itemOf fs x k))
         → FoundAs (itemOf (unfolded d) x k) x r
     found-way x k r few f =
-        let p : Planned plan′ (unfolded d) = for-unfolding in
+        let p : Planned plan′ (unfolded d) = planned in
         let h : r ≡ foundOf (itemOf (unfolded d) x k) = f (unfolded d) p in
         record {
           found = h;
@@ -61,7 +45,7 @@ module _ (d s z e plan : List ℕ) (id : ℕ) (rd : Ready d s z e id (length pla
 
     module _ (x plan″ old : List ℕ) (stop : Stop) (f : (fs : List Field) → Planned plan′ fs → Marked stop plan″ (walk fs x)) where
       marked : Marked stop plan″ (walk (unfolded d) x)
-      marked = f (unfolded d) for-unfolding
+      marked = f (unfolded d) planned
 
       pub stopped-way : (r : Listed) → (stop .number ≡ 0 → ⊥) → r ≡ record { number = stop .number; place = stop .place }
           → ListedAs (itemsInto (length plan) (unfolded d) x old) old r old
@@ -87,6 +71,6 @@ module _ (d s z e plan : List ℕ) (id : ℕ) (rd : Ready d s z e id (length pla
               let z : n ≡ 0 = rw a at h in
               absurd (let y : ⊥ = omega (arith, walk-number (unfolded d) x n p e) in y)
           go (ok ns) e a m =
-              let n : length ns ≡ length plan = as-many plan′ (unfolded d) x ns for-unfolding e ∙ long in
-              let k : new ≡ itemList (length ns) (length x) ns old = g ns (all-noted plan′ (unfolded d) x ns for-unfolding e) (m ns refl) in
+              let n : length ns ≡ length plan = as-many plan′ (unfolded d) x ns planned e ∙ long in
+              let k : new ≡ itemList (length ns) (length x) ns old = g ns (all-noted plan′ (unfolded d) x ns planned e) (m ns refl) in
               record { answered = q; entries = rw n at k }

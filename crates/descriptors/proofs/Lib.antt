@@ -6,3 +6,4 @@ pub mod Stepping
 pub mod Moving
 pub mod Advancing
 pub mod Examining
+pub mod Callers

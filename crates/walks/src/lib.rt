@@ -42,7 +42,7 @@ const LAYOUT: u64 = 1099511627776;
 const POSITION: u64 = 281474976710656;
 
 // The item at a place of the data, by its entry in the plan. It lies within the data.
-fn item_at(entry: u64, data: &[u8], at: usize) -> items::Measured
+pub fn item_at(entry: u64, data: &[u8], at: usize) -> items::Measured
     requires { ⌜ at ≤ length (now «data») ⌝ }
     ensures { λ r. ⌜ (r ≡ answer (measureEntry entry (drop at (now («data» .entry))))) × (at + (r .prefix + r .value + r .padding) ≤ length (now («data» .entry))) ⌝ }
 {

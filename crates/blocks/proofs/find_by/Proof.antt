@@ -1,4 +1,5 @@
-use Rattle.blocks.proofs.Plans.{ready-known, ready-room, found-way}
+use Rattle.descriptors.proofs.Callers.{ready-known, ready-room}
+use Rattle.blocks.proofs.Plans.{found-way}
 use borrow.Author.Needs.{needs}
 use Rattle.blocks.proofs.find_by.Statement.{statement}
 use Rattle.blocks.proofs.find_by.Tie as tie

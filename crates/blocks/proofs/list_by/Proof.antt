@@ -1,5 +1,6 @@
 use mathlib.Core.Path.{refl}
-use Rattle.blocks.proofs.Plans.{ready-known, ready-room, stopped-way, listed-way}
+use Rattle.descriptors.proofs.Callers.{ready-known, ready-room}
+use Rattle.blocks.proofs.Plans.{stopped-way, listed-way}
 use borrow.Author.Needs.{needs}
 use Rattle.blocks.proofs.list_by.Statement.{statement}
 use Rattle.blocks.proofs.list_by.Tie as tie

@@ -1,0 +1,47 @@
+-- What a caller knows of an examined descriptor: its refusal, and that a plan of as many entries as there are items stands for the unfolding.
+-- Assumes nothing.
+use mathlib.Core.Path.{_≡_, refl, sym, ap, _∙_}
+use Prim.Native.Nat.{ℕ, _≤_}
+use native.Mathlib.Omega.{arith}
+use mathlib.Core.List.{List, map}
+use lib.ListN.{length}
+use lib.Seq.{sets, length-sets, take-all}
+use Rattle.fdoca.specs.declared.Checked.{Checked}
+use Rattle.fdoca.specs.Basics.{Result, refuse, ok}
+use Rattle.fdoca.specs.Check.{check}
+use Rattle.fdoca.specs.Unfolding.{unfolded}
+use Rattle.fdoca.specs.Calls.{checked}
+use Rattle.plans.specs.Plan.{entryOf, Planned}
+use Rattle.plans.specs.Tied.{listOf, Known}
+use Rattle.plans.proofs.Fields.{planned, first-numbers}
+use Rattle.descriptors.specs.declared.Examined.{Examined}
+use Rattle.descriptors.specs.Holds.{Examination, Ready}
+
+pub refused-by : (d s z e : List ℕ) (x : Examined) → Examination d s z e x → (x .number ≡ 0 → ⊥) → check d ≡ refuse (x .number) (x .place)
+refused-by d s z e x w h = go (check d) (w .same)
+  where
+    go : (c : Result ℕ) → record { number = x .number; place = x .place; items = x .items } ≡ checked c → c ≡ refuse (x .number) (x .place)
+    go (refuse n p) q =
+        let a : x .number ≡ n = ap (λ (y : Checked). y .number) q in
+        let b : x .place ≡ p = ap (λ (y : Checked). y .place) q in
+        rw (a, b)
+    go (ok n) q = absurd (h (ap (λ (y : Checked). y .number) q))
+
+module _ (d s z e plan : List ℕ) (id : ℕ) (rd : Ready d s z e id (length plan)) where
+  pub ready-known : Known d id
+  ready-known = rd .known
+
+  pub ready-room : length (listOf d id) ≤ length plan
+  ready-room = omega (arith, rd .count, ap length (rd .whole))
+
+  module _ (plan′ : List ℕ) (written : plan′ ≡ sets plan 0 (map entryOf (listOf d id))) where
+    is-plan : plan′ ≡ map entryOf (listOf d id)
+    is-plan =
+        let long : length (sets plan 0 (map entryOf (listOf d id))) ≡ length plan = length-sets plan 0 (map entryOf (listOf d id)) in
+        let same : length (listOf d id) ≡ length plan = sym (ap length (rd .whole)) ∙ sym (rd .count) in
+        written
+        ∙ sym (take-all (length (listOf d id)) (sets plan 0 (map entryOf (listOf d id))) (omega arith))
+        ∙ first-numbers plan (listOf d id) ready-room
+
+    pub for-unfolding : Planned plan′ (unfolded d)
+    for-unfolding = rw (is-plan, rd .whole) (planned d s z e (rd .tied) id (rd .known))
