@@ -7,10 +7,10 @@ mod random;
 mod structured;
 
 pub use extremes::full_descriptor;
+pub use random::Random;
 
 use crate::field::Field;
 use crate::unfold;
-use random::Random;
 
 /// The longest descriptor, data block and unfolding of an ordinary case.
 const SMALL_BYTES: usize = 120;

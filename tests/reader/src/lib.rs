@@ -41,7 +41,7 @@ pub fn list(descriptor: &[u8], data: &[u8], list: &mut [u32]) -> Result<(), Refu
 }
 
 /// An item's state.
-#[derive(Clone, Copy, Debug, PartialEq, Eq)]
+#[derive(Clone, Copy, Debug, Default, PartialEq, Eq)]
 pub struct State {
     pub is_null: bool,
     pub type_code: u8,
@@ -67,7 +67,7 @@ pub fn lend<'b>(descriptor: &[u8], data: &'b [u8], item: u32) -> &'b [u8] {
 }
 
 /// A whole-number item; the value of a null is 0.
-#[derive(Clone, Copy, Debug, PartialEq, Eq)]
+#[derive(Clone, Copy, Debug, Default, PartialEq, Eq)]
 pub struct Whole {
     pub is_null: bool,
     pub value: i64,

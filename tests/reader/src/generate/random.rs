@@ -1,11 +1,11 @@
 //! A small deterministic source of random numbers (splitmix64).
 
-pub(super) struct Random {
+pub struct Random {
     state: u64,
 }
 
 impl Random {
-    pub(super) fn new(seed: u64) -> Random {
+    pub fn new(seed: u64) -> Random {
         Random { state: seed }
     }
 
@@ -18,31 +18,31 @@ impl Random {
     }
 
     /// A number below `end`, which is above 0.
-    pub(super) fn below(&mut self, end: usize) -> usize {
+    pub fn below(&mut self, end: usize) -> usize {
         (self.next() % end as u64) as usize
     }
 
-    pub(super) fn between(&mut self, lowest: usize, highest: usize) -> usize {
+    pub fn between(&mut self, lowest: usize, highest: usize) -> usize {
         lowest + self.below(highest - lowest + 1)
     }
 
-    pub(super) fn one_in(&mut self, chances: usize) -> bool {
+    pub fn one_in(&mut self, chances: usize) -> bool {
         self.below(chances) == 0
     }
 
-    pub(super) fn pick<T: Copy>(&mut self, choices: &[T]) -> T {
+    pub fn pick<T: Copy>(&mut self, choices: &[T]) -> T {
         choices[self.below(choices.len())]
     }
 
-    pub(super) fn byte(&mut self) -> u8 {
+    pub fn byte(&mut self) -> u8 {
         self.next() as u8
     }
 
-    pub(super) fn word(&mut self) -> u32 {
+    pub fn word(&mut self) -> u32 {
         self.next() as u32
     }
 
-    pub(super) fn bytes(&mut self, count: usize) -> Vec<u8> {
+    pub fn bytes(&mut self, count: usize) -> Vec<u8> {
         (0..count).map(|_| self.byte()).collect()
     }
 }

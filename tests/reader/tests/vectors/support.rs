@@ -157,7 +157,7 @@ fn assert_item(name: &str, descriptor: &[u8], data: &[u8], answer: &Answer) {
     assert_eq!(state.is_null, matches!(answer, Answer::Null), "{name}");
     match answer {
         Answer::Length(length) => assert_eq!(lent.len(), *length, "{name}"),
-        Answer::Value(value) => assert_eq!(lent, value, "{name}"),
+        Answer::Value(value) => assert_eq!(lent[..], value[..], "{name}"),
         Answer::Whole(value) => {
             let whole = whole_number(descriptor, data, 0).expect(name);
             assert_eq!((whole.is_null, whole.value), (false, *value), "{name}");

@@ -1,0 +1,321 @@
+//! The check of a descriptor, and its unfolding into fields.
+
+use library::{Refusal, MAX_DESCRIPTOR};
+
+use super::item::{Field, Layout, Space};
+use super::refusal;
+
+const MAX_ITEMS: u64 = 4_096;
+
+const TORN_TRIPLET: u32 = 2;
+const UNKNOWN_CONSTRUCT: u32 = 3;
+const OUT_OF_SEQUENCE: u32 = 4;
+const BAD_LENGTH: u32 = 5;
+const BAD_PARAMETER: u32 = 6;
+const NAME_TAKEN: u32 = 7;
+const MISSING_REFERENCE: u32 = 8;
+const NOT_CARRIED: u32 = 9;
+const TOO_MANY_ITEMS: u32 = 10;
+
+const NONE: u8 = 0;
+
+/// A descriptor, parsed.
+pub struct Descriptor {
+    /// For each id its place among the triplets, counted from 1; `NONE` if it is
+    /// not described.
+    places: [u8; 256],
+    triplets: Vec<Triplet>,
+    groups: Vec<Group>,
+    /// The last triplet's id if it is an RLO, which CPTs may continue.
+    open: Option<u8>,
+}
+
+#[derive(Clone, Copy)]
+struct Triplet {
+    count: u16,
+    contents: Contents,
+}
+
+#[derive(Clone, Copy)]
+enum Contents {
+    /// The field, and the items of one element if there are extents.
+    Sda {
+        field: Field,
+        per_element: Option<u16>,
+    },
+    /// The groups from the first to before the end.
+    Rlo { first: u16, end: u16 },
+}
+
+/// So many repetitions of so many items of an SDA, or of a whole RLO.
+#[derive(Clone, Copy)]
+struct Group {
+    triplet: u8,
+    factor: u8,
+    items: u16,
+}
+
+impl Default for Descriptor {
+    fn default() -> Descriptor {
+        Descriptor {
+            places: [NONE; 256],
+            triplets: Vec::new(),
+            groups: Vec::new(),
+            open: None,
+        }
+    }
+}
+
+impl Descriptor {
+    pub fn parse(&mut self, descriptor: &[u8]) -> Result<(), Refusal> {
+        if descriptor.len() > MAX_DESCRIPTOR {
+            return Err(refusal(1, 0));
+        }
+        self.places.fill(NONE);
+        self.triplets.clear();
+        self.groups.clear();
+        self.open = None;
+        let mut rest = descriptor;
+        while let [length, ..] = *rest {
+            let place = descriptor.len() - rest.len();
+            let (triplet, behind) = rest
+                .split_at_checked(length.into())
+                .ok_or(refusal(TORN_TRIPLET, place))?;
+            self.read(triplet, place)
+                .map_err(|number| refusal(number, place))?;
+            rest = behind;
+        }
+        match self.triplets[..] {
+            [] => Err(refusal(11, descriptor.len())),
+            _ => Ok(()),
+        }
+    }
+
+    /// The count of an accepted descriptor.
+    pub fn count(&self) -> u32 {
+        self.triplets.last().map_or(0, |last| last.count.into())
+    }
+
+    /// The fields of an accepted descriptor, one for each item.
+    pub fn unfold(&self, fields: &mut Vec<Field>) {
+        fields.clear();
+        if let Some(last) = self.triplets.last() {
+            fields.reserve(last.count.into());
+            match last.contents {
+                Contents::Sda { field, .. } => fields.resize(last.count.into(), field),
+                Contents::Rlo { first, end } => self.unfold_groups(first, end, fields),
+            }
+        }
+    }
+
+    fn unfold_groups(&self, first: u16, end: u16, fields: &mut Vec<Field>) {
+        for group in &self.groups[first.into()..end.into()] {
+            let from = fields.len();
+            match self.triplets[usize::from(group.triplet)].contents {
+                Contents::Sda { field, .. } => {
+                    let items = usize::from(group.items) * usize::from(group.factor);
+                    fields.resize(from + items, field);
+                }
+                Contents::Rlo { first, end } => {
+                    self.unfold_groups(first, end, fields);
+                    let to = fields.len();
+                    for _ in 1..group.factor {
+                        fields.extend_from_within(from..to);
+                    }
+                }
+            }
+        }
+    }
+
+    fn read(&mut self, triplet: &[u8], place: usize) -> Result<(), u32> {
+        let [_, construct, body @ ..] = triplet else {
+            return Err(TORN_TRIPLET);
+        };
+        match construct {
+            0x70 => self.sda(body),
+            0x71 => self.rlo(body),
+            0x7F => self.cpt(body),
+            0x7E if place == 0 => isd(body),
+            0x7E => Err(OUT_OF_SEQUENCE),
+            _ => Err(UNKNOWN_CONSTRUCT),
+        }
+    }
+
+    fn sda(&mut self, body: &[u8]) -> Result<(), u32> {
+        self.close();
+        let (&[id, type_code, ref parameters @ ..], extents) =
+            body.split_first_chunk::<10>().ok_or(BAD_LENGTH)?;
+        if !matches!(extents.len(), 0 | 2 | 4 | 6) {
+            return Err(BAD_LENGTH);
+        }
+        let field = field(id, type_code, parameters).ok_or(BAD_PARAMETER)?;
+        let mut extents = extents
+            .chunks_exact(2)
+            .map(|extent| u64::from(u16::from_be_bytes([extent[0], extent[1]])));
+        let highest = extents.next();
+        let lower: u64 = extents.product();
+        let count = highest.unwrap_or(1) * lower;
+        if count == 0 {
+            return Err(BAD_PARAMETER);
+        }
+        if self.places[usize::from(id)] != NONE {
+            return Err(NAME_TAKEN);
+        }
+        if count > MAX_ITEMS {
+            return Err(TOO_MANY_ITEMS);
+        }
+        self.triplets.push(Triplet {
+            count: count as u16,
+            contents: Contents::Sda {
+                field,
+                per_element: highest.map(|_| lower as u16),
+            },
+        });
+        self.places[usize::from(id)] = self.triplets.len() as u8;
+        Ok(())
+    }
+
+    fn rlo(&mut self, body: &[u8]) -> Result<(), u32> {
+        self.close();
+        let (id, groups) = groups(body)?;
+        if id == 0 {
+            return Err(BAD_PARAMETER);
+        }
+        if self.places[usize::from(id)] != NONE {
+            return Err(NAME_TAKEN);
+        }
+        let first = self.groups.len() as u16;
+        let count = self.add_groups(0, groups)?;
+        self.triplets.push(Triplet {
+            count,
+            contents: Contents::Rlo {
+                first,
+                end: self.groups.len() as u16,
+            },
+        });
+        self.open = Some(id);
+        Ok(())
+    }
+
+    fn cpt(&mut self, body: &[u8]) -> Result<(), u32> {
+        if self.open.is_none() {
+            return Err(OUT_OF_SEQUENCE);
+        }
+        let (id, groups) = groups(body)?;
+        if id != 0 {
+            return Err(BAD_PARAMETER);
+        }
+        let before = self.count() as u16;
+        let total = self.add_groups(before, groups)?;
+        let last = self.groups.len() as u16;
+        if let Some(Triplet {
+            count,
+            contents: Contents::Rlo { end, .. },
+        }) = self.triplets.last_mut()
+        {
+            *count = total;
+            *end = last;
+        }
+        Ok(())
+    }
+
+    /// No CPT follows any more: the open RLO can now be referred to. One that only
+    /// names another RLO once stands for that one, so that long chains of references
+    /// are not followed again and again.
+    fn close(&mut self) {
+        let Some(id) = self.open.take() else {
+            return;
+        };
+        let place = match self.triplets.last().map(|row| row.contents) {
+            Some(Contents::Rlo { first, end }) if end - first == 1 => {
+                let group = self.groups[usize::from(first)];
+                let lower = self.triplets[usize::from(group.triplet)].contents;
+                let is_same = group.factor == 1 && matches!(lower, Contents::Rlo { .. });
+                is_same.then_some(group.triplet + 1)
+            }
+            _ => None,
+        };
+        self.places[usize::from(id)] = place.unwrap_or(self.triplets.len() as u8);
+    }
+
+    /// Adds an RLO's or a CPT's groups, and gives the row's count up to them.
+    fn add_groups(&mut self, count: u16, groups: &[u8]) -> Result<u16, u32> {
+        let mut total = u64::from(count);
+        for group in groups.chunks_exact(3) {
+            let (id, taken, factor) = (group[0], group[1], group[2]);
+            let triplet = self.places[usize::from(id)]
+                .checked_sub(1)
+                .ok_or(MISSING_REFERENCE)?;
+            let lower = self.triplets[usize::from(triplet)];
+            let items = match lower.contents {
+                _ if factor == 0 => return Err(NOT_CARRIED),
+                _ if taken == 0 => u64::from(lower.count),
+                Contents::Sda {
+                    per_element: Some(count),
+                    ..
+                } => u64::from(taken) * u64::from(count),
+                _ => return Err(NOT_CARRIED),
+            };
+            total += u64::from(factor) * items;
+            if total > MAX_ITEMS {
+                return Err(TOO_MANY_ITEMS);
+            }
+            self.groups.push(Group {
+                triplet,
+                factor,
+                items: items as u16,
+            });
+        }
+        Ok(total as u16)
+    }
+}
+
+/// The id and the groups of an RLO or a CPT.
+fn groups(body: &[u8]) -> Result<(u8, &[u8]), u32> {
+    match body {
+        [id, groups @ ..] if !groups.is_empty() && groups.len() % 3 == 0 => Ok((*id, groups)),
+        _ => Err(BAD_LENGTH),
+    }
+}
+
+fn isd(body: &[u8]) -> Result<(), u32> {
+    match body {
+        [0, 0 | 1, 0] | [0, 0 | 1, 0, 1] => Ok(()),
+        [_, _, _] | [_, _, _, _] => Err(BAD_PARAMETER),
+        _ => Err(BAD_LENGTH),
+    }
+}
+
+/// The field of an SDA if its id, type and parameters are good.
+fn field(id: u8, type_code: u8, parameters: &[u8; 8]) -> Option<Field> {
+    let [0, 0, bias_high, bias_low, 0, mode, high, low] = *parameters else {
+        return None;
+    };
+    let length = u16::from_be_bytes([high, low]);
+    let highest_bias = u16::from(matches!(type_code & 0x7F, 0x47 | 0x48));
+    if id == 0 || u16::from_be_bytes([bias_high, bias_low]) > highest_bias {
+        return None;
+    }
+    let space = match (length, mode) {
+        (0, 0 | 1) => Space::Free,
+        (_, 0) => Space::Reserved,
+        (_, 1) => Space::Limited,
+        _ => return None,
+    };
+    let layout = match (type_code & 0x7F, length, mode) {
+        (0x01, 0..=32_767, 0) => Layout::Fixed,
+        (0x02, 0..=32_767, _) => Layout::Variable(space),
+        (0x03, 0..=32_767, _) => Layout::Terminated(space),
+        (0x07, 0..=255, _) => Layout::Short(space),
+        (0x23 | 0x24, 2 | 4 | 8, 0) => Layout::Fixed,
+        (0x40, 4 | 8 | 16, 0) => Layout::Fixed,
+        (0x47 | 0x48, 4 | 8, 0) => Layout::Fixed,
+        _ => return None,
+    };
+    Some(Field {
+        length,
+        id,
+        type_code,
+        layout,
+    })
+}

@@ -1,0 +1,90 @@
+//! Times the proved library beside a reader in plain Rust, on the same inputs, in
+//! turns, and prints a table.
+//!
+//! Where the stack and the code happen to lie changes the time of short calls, so
+//! several processes measure, and the table has their medians.
+
+mod fast;
+mod inputs;
+mod measure;
+mod timing;
+
+use std::env;
+use std::io;
+use std::process::Command;
+
+use measure::Measurement;
+use timing::{geometric_mean, median, Timing};
+
+const PROCESSES: usize = 7;
+const MEASURE: &str = "--measure";
+
+fn main() -> io::Result<()> {
+    if env::args().nth(1).as_deref() == Some(MEASURE) {
+        measure::print_all();
+        return Ok(());
+    }
+    let runs: Vec<Vec<Measurement>> = (0..PROCESSES)
+        .map(|_| measure_in_process())
+        .collect::<io::Result<_>>()?;
+    let rows: Vec<Measurement> = (0..runs[0].len())
+        .map(|row| median_of_runs(&runs, row))
+        .collect();
+    print_table(&rows);
+    Ok(())
+}
+
+fn measure_in_process() -> io::Result<Vec<Measurement>> {
+    let output = Command::new(env::current_exe()?).arg(MEASURE).output()?;
+    let text = String::from_utf8_lossy(&output.stdout);
+    let rows: Vec<Measurement> = text.lines().filter_map(Measurement::parse).collect();
+    match output.status.success() && !rows.is_empty() {
+        true => Ok(rows),
+        false => Err(io::Error::other(
+            String::from_utf8_lossy(&output.stderr).into_owned(),
+        )),
+    }
+}
+
+fn median_of_runs(runs: &[Vec<Measurement>], row: usize) -> Measurement {
+    let of = |part: fn(&Timing) -> f64| median(runs.iter().map(|run| part(&run[row].timing)));
+    Measurement {
+        timing: Timing {
+            library: of(|timing| timing.library),
+            rust: of(|timing| timing.rust),
+            ratio: of(|timing| timing.ratio),
+        },
+        ..runs[0][row].clone()
+    }
+}
+
+fn print_table(rows: &[Measurement]) {
+    println!("| Call | Input | Items | Library ns/item | Rust ns/item | Library µs | Ratio |");
+    println!("|---|---|--:|--:|--:|--:|--:|");
+    for row in rows {
+        let per_item = |time: f64| time / f64::from(row.items.max(1));
+        println!(
+            "| {} | {} | {} | {:.2} | {:.2} | {:.2} | {:.2} |",
+            row.call,
+            row.input,
+            row.items,
+            per_item(row.timing.library),
+            per_item(row.timing.rust),
+            row.timing.library / 1000.0,
+            row.timing.ratio
+        );
+    }
+    println!();
+    for call in ["list", "state", "check"] {
+        let of_call = rows.iter().filter(|row| row.call == call);
+        let ratios: Vec<f64> = of_call.map(|row| row.timing.ratio).collect();
+        println!("{call}: geometric mean {:.2}", geometric_mean(&ratios));
+    }
+    let longest = rows
+        .iter()
+        .max_by(|one, other| one.timing.library.total_cmp(&other.timing.library));
+    if let Some(row) = longest {
+        let time = row.timing.library / 1000.0;
+        println!("longest call: {} of {}, {time:.1} µs", row.call, row.input);
+    }
+}

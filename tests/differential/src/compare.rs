@@ -1,0 +1,136 @@
+//! One case put to both readers, call by call.
+
+use std::fmt::Debug;
+
+use differential::answers;
+use reader::generate::Random;
+
+/// How many mismatches are printed.
+const PRINTED: u64 = 10;
+
+/// The numbers 0 to 18.
+pub const NUMBERS: usize = 19;
+
+/// All cases so far.
+pub struct Comparison {
+    pub cases: u64,
+    pub mismatches: u64,
+    /// How often the calls have given each number.
+    pub numbers: [u64; NUMBERS],
+    pub random: Random,
+}
+
+impl Comparison {
+    pub fn new(seed: u64) -> Comparison {
+        Comparison {
+            cases: 0,
+            mismatches: 0,
+            numbers: [0; NUMBERS],
+            random: Random::new(seed),
+        }
+    }
+
+    /// Compares all calls on a descriptor and its data.
+    pub fn compare(&mut self, descriptor: &[u8], data: &[u8]) {
+        self.cases += 1;
+        let block = Block { descriptor, data };
+        let checked = answers::check(descriptor);
+        let expected = reader::check(descriptor);
+        self.agree(block, "check", checked, expected.into());
+        self.met(checked.number);
+
+        let count = expected.unwrap_or(0);
+        self.compare_list(block, 2 + 2 * count as usize);
+        let any = self.random.below(count.max(1) as usize) as u32;
+        let last = count.saturating_sub(1);
+        for item in [0, last, any, count, count + 1, u32::MAX] {
+            self.compare_item(block, item);
+        }
+    }
+
+    /// Counts something that should not be, and prints it.
+    pub fn fail(&mut self, message: &str) {
+        self.mismatches += 1;
+        if self.mismatches <= PRINTED {
+            println!("{message}");
+        }
+    }
+
+    fn compare_list(&mut self, block: Block, needed: usize) {
+        let length = match self.random.below(8) {
+            0 => needed - 1,
+            1 => self.random.below(needed),
+            2..=4 => needed + self.random.between(1, 9),
+            _ => needed,
+        };
+        let before = 0xF000_0000..0xF000_0000 + length as u32;
+        let mut by_library: Vec<u32> = before.collect();
+        let mut by_reader = by_library.clone();
+        let answer = answers::list(block.descriptor, block.data, &mut by_library);
+        let expected = reader::list(block.descriptor, block.data, &mut by_reader);
+        let call = format!("list of {length} entries");
+        self.agree(block, &call, answer, expected.into());
+        self.agree(block, "entries afterwards", by_library, by_reader);
+        self.met(answer.number);
+    }
+
+    fn compare_item(&mut self, block: Block, item: u32) {
+        let Block { descriptor, data } = block;
+        let state = answers::state(descriptor, data, item);
+        let expected = reader::state(descriptor, data, item);
+        self.agree(block, &format!("state of {item}"), state, expected.into());
+        self.met(state.number);
+
+        let whole = answers::whole_number(descriptor, data, item);
+        let expected = reader::whole_number(descriptor, data, item);
+        self.agree(block, &format!("whole {item}"), whole, expected.into());
+        self.met(whole.number);
+
+        self.compare_lent(block, item);
+    }
+
+    /// The lent part goes to a buffer that is just long enough, longer or too short.
+    fn compare_lent(&mut self, block: Block, item: u32) {
+        let part = reader::lend(block.descriptor, block.data, item);
+        let room = match self.random.below(4) {
+            0 => part.len().saturating_sub(1),
+            1 => part.len() + 3,
+            _ => part.len(),
+        };
+        let mut expected = vec![0xA5; room];
+        if let Some(beginning) = expected.get_mut(..part.len()) {
+            beginning.copy_from_slice(part);
+        }
+        let mut bytes = vec![0xA5; room];
+        let length = answers::lend(block.descriptor, block.data, item, &mut bytes);
+        let call = format!("lent part of {item}");
+        self.agree(block, &call, (length, bytes), (part.len(), expected));
+    }
+
+    fn agree<T: PartialEq + Debug>(&mut self, block: Block, call: &str, library: T, reader: T) {
+        if library != reader {
+            self.fail(&format!(
+                "mismatch in {call}\n  descriptor {}\n  data {}\n  library {library:?}\n  reader {reader:?}",
+                hex(block.descriptor),
+                hex(block.data),
+            ));
+        }
+    }
+
+    fn met(&mut self, number: u32) {
+        match self.numbers.get_mut(number as usize) {
+            Some(times) => *times += 1,
+            None => self.fail(&format!("number {number}")),
+        }
+    }
+}
+
+#[derive(Clone, Copy)]
+struct Block<'b> {
+    descriptor: &'b [u8],
+    data: &'b [u8],
+}
+
+fn hex(bytes: &[u8]) -> String {
+    bytes.iter().map(|byte| format!("{byte:02X}")).collect()
+}

@@ -1,0 +1,104 @@
+//! The groups of cases, the same ones in every run.
+
+mod descriptor_bytes;
+mod forms;
+mod limits;
+
+use reader::generate::{Case, Generator};
+
+use crate::compare::Comparison;
+
+pub struct Group {
+    pub name: &'static str,
+    pub run: fn(&mut Comparison),
+}
+
+pub const GROUPS: [Group; 9] = [
+    Group {
+        name: "valid blocks of every form",
+        run: forms::every_form,
+    },
+    Group {
+        name: "data cut at every byte, continued and changed",
+        run: forms::varied_data,
+    },
+    Group {
+        name: "every change of a descriptor byte",
+        run: descriptor_bytes::every_change,
+    },
+    Group {
+        name: "valid, damaged and hostile descriptors",
+        run: generated,
+    },
+    Group {
+        name: "nests up to 255 deep",
+        run: limits::nests,
+    },
+    Group {
+        name: "counts around 4,096",
+        run: limits::counts,
+    },
+    Group {
+        name: "rows of 1,300 groups",
+        run: limits::long_rows,
+    },
+    Group {
+        name: "sizes at and over their limits",
+        run: limits::sizes,
+    },
+    Group {
+        name: "random bytes",
+        run: random_bytes,
+    },
+];
+
+fn generated(comparison: &mut Comparison) {
+    for case in Generator::new(1).take(90_000) {
+        comparison.compare(&case.descriptor, &case.data);
+    }
+}
+
+fn random_bytes(comparison: &mut Comparison) {
+    for _ in 0..40_000 {
+        let lengths = [comparison.random.below(40), comparison.random.below(12)];
+        let [descriptor, data] = lengths.map(|length| comparison.random.bytes(length));
+        comparison.compare(&descriptor, &data);
+    }
+    for case in Generator::new(2).filter(is_accepted).take(30_000) {
+        let length = comparison.random.below(2 * case.data.len() + 2);
+        let data = comparison.random.bytes(length);
+        comparison.compare(&case.descriptor, &data);
+    }
+}
+
+/// Further cases, as long as they are asked for.
+pub fn more(comparison: &mut Comparison, mut goes_on: impl FnMut(&Comparison) -> bool) {
+    for case in Generator::new(3) {
+        if !goes_on(comparison) {
+            return;
+        }
+        comparison.compare(&case.descriptor, &case.data);
+        let mut changed = case;
+        for _ in 0..comparison.random.between(1, 4) {
+            let random = &mut comparison.random;
+            let bytes = match random.below(3) {
+                0 => &mut changed.descriptor,
+                _ => &mut changed.data,
+            };
+            if bytes.is_empty() {
+                continue;
+            }
+            let offset = random.below(bytes.len());
+            bytes[offset] = match random.below(3) {
+                0 => random.byte(),
+                _ => random.pick(&[0, 1, 2, 0x7F, 0x80, 0xFF]),
+            };
+            comparison.compare(&changed.descriptor, &changed.data);
+        }
+    }
+}
+
+/// Every block has an item 0.
+fn is_accepted(case: &Case) -> bool {
+    reader::state(&case.descriptor, &case.data, 0).is_ok()
+}

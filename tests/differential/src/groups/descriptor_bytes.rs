@@ -1,0 +1,75 @@
+//! Descriptors with one byte changed, to every other value at every position.
+
+use differential::triplets::{row, row_of_parts, sda};
+
+use crate::compare::Comparison;
+
+pub fn every_change(comparison: &mut Comparison) {
+    for (descriptor, data) in blocks() {
+        assert!(reader::state(&descriptor, &data, 0).is_ok());
+        for offset in 0..descriptor.len() {
+            let mut changed = descriptor.clone();
+            for change in 1..=255 {
+                changed[offset] = descriptor[offset] ^ change;
+                comparison.compare(&changed, &data);
+            }
+        }
+    }
+}
+
+fn blocks() -> [(Vec<u8>, Vec<u8>); 4] {
+    [nullable_strings(), overrides(), mixed_row(), nested_rows()]
+}
+
+fn nullable_strings() -> (Vec<u8>, Vec<u8>) {
+    let descriptor = [sda(0xB1, 0x81, 0, 3, &[]), row(0xA1, &[[0xB1, 0, 2]])];
+    (descriptor.concat(), b"\0abc\x80".to_vec())
+}
+
+/// Figure 3-6 of the standard.
+fn overrides() -> (Vec<u8>, Vec<u8>) {
+    let descriptor = [
+        sda(0xB1, 0x01, 0, 3, &[]),
+        sda(0xB2, 0x01, 0, 1, &[9]),
+        row(0xA1, &[[0xB1, 0, 4], [0xB2, 4, 1], [0xB2, 10, 2]]),
+        row(0xA2, &[[0xA1, 0, 2]]),
+    ];
+    (descriptor.concat(), vec![b'X'; 72])
+}
+
+/// An ISD, every kind of length field, an RLO and its CPTs.
+fn mixed_row() -> (Vec<u8>, Vec<u8>) {
+    let groups = [[1, 0, 1], [2, 0, 1], [3, 2, 1], [4, 0, 1], [5, 0, 2]];
+    let descriptor = [
+        vec![6, 0x7E, 0, 1, 0, 1],
+        sda(1, 0x82, 1, 4, &[]),
+        sda(2, 0x03, 0, 3, &[]),
+        sda(3, 0x07, 0, 0, &[1, 2]),
+        sda(4, 0xA4, 0, 4, &[1]),
+        sda(5, 0x48, 0, 4, &[]),
+        row_of_parts(9, groups.chunks(2)),
+    ];
+    let data = [
+        &[0, 0, 2, b'a', b'b'][..],
+        b"x\0yz",
+        &[1, b'a', 0, 2, b'b', b'c', 0],
+        &[0x7F, 0xFE, 0xFF, 0xFF, 0xFF],
+        &[0; 8],
+    ];
+    (descriptor.concat(), data.concat())
+}
+
+/// Figure 3-8 of the standard.
+fn nested_rows() -> (Vec<u8>, Vec<u8>) {
+    let descriptor = [
+        sda(0xB1, 0x01, 0, 1, &[3]),
+        row(0xA1, &[[0xB1, 1, 1], [0xB1, 0, 1]]),
+        row(0xA2, &[[0xB1, 0, 1], [0xB1, 4, 1]]),
+        row(0xA3, &[[0xB1, 2, 1], [0xB1, 0, 1]]),
+        row(0xA4, &[[0xB1, 0, 2]]),
+        row(0xA5, &[[0xA1, 0, 1], [0xA2, 0, 1], [0xA3, 0, 1]]),
+        row(0xA6, &[[0xA4, 0, 3]]),
+        row(0xA7, &[[0xA5, 0, 1], [0xA6, 0, 1]]),
+    ];
+    (descriptor.concat(), vec![b'a'; 34])
+}

@@ -1,0 +1,148 @@
+//! Valid blocks of every field type, mode and kind of triplet, and changes of
+//! their data.
+
+use std::collections::BTreeSet;
+
+use differential::triplets::{triplets, CPT, ISD, RLO, SDA};
+use reader::generate::Generator;
+use reader::{unfold, Field};
+
+use super::is_accepted;
+use crate::compare::Comparison;
+
+/// What a descriptor can have.
+#[derive(Clone, Copy, Debug, PartialEq, Eq, PartialOrd, Ord)]
+enum Form {
+    Field {
+        type_code: u8,
+        mode: u8,
+        has_length: bool,
+    },
+    Extents(usize),
+    ElementsTaken,
+    Repetition,
+    Nest,
+    Continuation,
+    Support,
+}
+
+const FREE_LENGTHS: [bool; 2] = [false, true];
+const SOME_LENGTH: [bool; 1] = [true];
+
+/// Plain type, modes, whether the field length is above 0.
+const TYPES: [(u8, &[u8], &[bool]); 9] = [
+    (0x01, &[0], &FREE_LENGTHS),
+    (0x02, &[0, 1], &FREE_LENGTHS),
+    (0x03, &[0, 1], &FREE_LENGTHS),
+    (0x07, &[0, 1], &FREE_LENGTHS),
+    (0x23, &[0], &SOME_LENGTH),
+    (0x24, &[0], &SOME_LENGTH),
+    (0x40, &[0], &SOME_LENGTH),
+    (0x47, &[0], &SOME_LENGTH),
+    (0x48, &[0], &SOME_LENGTH),
+];
+
+pub fn every_form(comparison: &mut Comparison) {
+    let mut missing = all_forms();
+    for case in Generator::new(4).filter(is_accepted).take(20_000) {
+        comparison.compare(&case.descriptor, &case.data);
+        for form in forms(&case.descriptor) {
+            missing.remove(&form);
+        }
+    }
+    if !missing.is_empty() {
+        comparison.fail(&format!("no valid block has {missing:?}"));
+    }
+}
+
+fn all_forms() -> BTreeSet<Form> {
+    let mut forms = BTreeSet::from([
+        Form::Extents(0),
+        Form::Extents(1),
+        Form::Extents(2),
+        Form::Extents(3),
+        Form::ElementsTaken,
+        Form::Repetition,
+        Form::Nest,
+        Form::Continuation,
+        Form::Support,
+    ]);
+    for (plain, modes, lengths) in TYPES {
+        for type_code in [plain, plain + 0x80] {
+            for &mode in modes {
+                forms.extend(lengths.iter().map(|&has_length| Form::Field {
+                    type_code,
+                    mode,
+                    has_length,
+                }));
+            }
+        }
+    }
+    forms
+}
+
+fn forms(descriptor: &[u8]) -> Vec<Form> {
+    let fields = unfold(descriptor).unwrap_or_default();
+    let mut forms: Vec<Form> = fields.iter().map(field_form).collect();
+    let triplets = triplets(descriptor);
+    let rows: Vec<u8> = triplets
+        .iter()
+        .filter(|triplet| triplet[1] == RLO)
+        .map(|triplet| triplet[2])
+        .collect();
+    for triplet in triplets {
+        match triplet[1] {
+            SDA => forms.push(Form::Extents((triplet.len() - 12) / 2)),
+            ISD => forms.push(Form::Support),
+            CPT => forms.push(Form::Continuation),
+            _ => {}
+        }
+        if matches!(triplet[1], RLO | CPT) {
+            let groups = triplet[3..].chunks_exact(3);
+            forms.extend(groups.flat_map(|group| group_forms(group, &rows)));
+        }
+    }
+    forms
+}
+
+fn field_form(field: &Field) -> Form {
+    Form::Field {
+        type_code: field.type_code(),
+        mode: field.mode(),
+        has_length: field.field_length() > 0,
+    }
+}
+
+fn group_forms(group: &[u8], rows: &[u8]) -> impl Iterator<Item = Form> {
+    [
+        (group[1] > 0).then_some(Form::ElementsTaken),
+        (group[2] > 1).then_some(Form::Repetition),
+        rows.contains(&group[0]).then_some(Form::Nest),
+    ]
+    .into_iter()
+    .flatten()
+}
+
+pub fn varied_data(comparison: &mut Comparison) {
+    let is_small = |length: usize| length < 60;
+    let blocks = Generator::new(5)
+        .filter(is_accepted)
+        .filter(|case| is_small(case.data.len()) && is_small(case.descriptor.len()));
+    for case in blocks.take(600) {
+        let (descriptor, data) = (&case.descriptor, case.data);
+        for length in 0..data.len() {
+            comparison.compare(descriptor, &data[..length]);
+        }
+        for surplus in [&[0][..], &[0x80], &[0xFF; 2], &[0; 17]] {
+            comparison.compare(descriptor, &[&data, surplus].concat());
+        }
+        for offset in 0..data.len() {
+            let old = data[offset];
+            let mut changed = data.clone();
+            for byte in [0, 1, 0x7F, 0x80, 0xFF, old ^ 1, old ^ 0x80] {
+                changed[offset] = byte;
+                comparison.compare(descriptor, &changed);
+            }
+        }
+    }
+}

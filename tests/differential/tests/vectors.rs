@@ -1,0 +1,14 @@
+//! The independent reader's vectors, put to the proved library.
+
+extern crate differential as reader;
+
+#[path = "../../reader/tests/vectors/edges.rs"]
+mod edges;
+#[path = "../../reader/tests/vectors/environment.rs"]
+mod environment;
+#[path = "../../reader/tests/vectors/examples.rs"]
+mod examples;
+#[path = "../../reader/tests/vectors/limits.rs"]
+mod limits;
+#[path = "../../reader/tests/vectors/support.rs"]
+mod support;
