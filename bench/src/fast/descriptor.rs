@@ -2,7 +2,7 @@
 
 use library::{Refusal, MAX_DESCRIPTOR};
 
-use super::item::{Field, Layout, Space};
+use super::item::{Field, Layout, FREE};
 use super::refusal;
 
 const MAX_ITEMS: u64 = 4_096;
@@ -296,26 +296,22 @@ fn field(id: u8, type_code: u8, parameters: &[u8; 8]) -> Option<Field> {
     if id == 0 || u16::from_be_bytes([bias_high, bias_low]) > highest_bias {
         return None;
     }
-    let space = match (length, mode) {
-        (0, 0 | 1) => Space::Free,
-        (_, 0) => Space::Reserved,
-        (_, 1) => Space::Limited,
-        _ => return None,
-    };
     let layout = match (type_code & 0x7F, length, mode) {
         (0x01, 0..=32_767, 0) => Layout::Fixed,
-        (0x02, 0..=32_767, _) => Layout::Variable(space),
-        (0x03, 0..=32_767, _) => Layout::Terminated(space),
-        (0x07, 0..=255, _) => Layout::Short(space),
+        (0x02, 0..=32_767, 0 | 1) => Layout::Variable,
+        (0x03, 0..=32_767, 0 | 1) => Layout::Terminated,
+        (0x07, 0..=255, 0 | 1) => Layout::Short,
         (0x23 | 0x24, 2 | 4 | 8, 0) => Layout::Fixed,
         (0x40, 4 | 8 | 16, 0) => Layout::Fixed,
         (0x47 | 0x48, 4 | 8, 0) => Layout::Fixed,
         _ => return None,
     };
+    let is_free = length == 0 && !matches!(layout, Layout::Fixed);
     Some(Field {
-        length,
         id,
         type_code,
         layout,
+        is_reserved: mode == 0 && !is_free,
+        limit: if is_free { FREE } else { length },
     })
 }

@@ -1,30 +1,29 @@
 //! Fields, and how an item is measured by its field.
 
-use std::ffi::CStr;
-
-/// How much space a value has: as much as it takes, at most F bytes, or always F.
-#[derive(Clone, Copy)]
-pub enum Space {
-    Free,
-    Limited,
-    Reserved,
-}
-
 #[derive(Clone, Copy)]
 pub enum Layout {
     Fixed,
-    Short(Space),
-    Variable(Space),
-    Terminated(Space),
+    /// A length field of one byte, then bytes.
+    Short,
+    /// A length field of two bytes, then bytes.
+    Variable,
+    /// Bytes up to a zero byte.
+    Terminated,
 }
 
 #[derive(Clone, Copy)]
 pub struct Field {
-    pub length: u16,
     pub id: u8,
     pub type_code: u8,
     pub layout: Layout,
+    /// Whether a value always has all of its space.
+    pub is_reserved: bool,
+    /// The longest value: the field length, or more than any block has.
+    pub limit: u16,
 }
+
+/// The limit of a value that may have any length.
+pub const FREE: u16 = u16::MAX;
 
 /// A measured item: its null mark, its value's length, and the length of all.
 #[derive(Clone, Copy)]
@@ -34,103 +33,69 @@ pub struct Item {
     pub length: usize,
 }
 
-impl Item {
-    fn new(value: usize, length: usize) -> Item {
-        Item {
-            is_null: false,
-            value,
-            length,
-        }
-    }
-}
-
 const SHORT_DATA: u32 = 13;
 const BAD_COUNT: u32 = 14;
 const NO_END: u32 = 15;
 
 impl Field {
-    #[inline]
+    #[inline(always)]
     pub fn measure(&self, bytes: &[u8]) -> Result<Item, u32> {
-        if self.type_code < 0x80 {
-            return self.measure_value(bytes);
-        }
-        match bytes {
-            [] => Err(SHORT_DATA),
-            [0x80..=0xFF, ..] => Ok(Item {
-                is_null: true,
-                value: 0,
-                length: 1,
-            }),
-            [_, rest @ ..] => {
-                let item = self.measure_value(rest)?;
-                Ok(Item::new(item.value, item.length + 1))
+        let body = match bytes {
+            _ if self.type_code < 0x80 => bytes,
+            [] => return Err(SHORT_DATA),
+            [0x80..=0xFF, ..] => {
+                return Ok(Item {
+                    is_null: true,
+                    value: 0,
+                    length: 1,
+                })
             }
+            [_, rest @ ..] => rest,
+        };
+        let (value, rest) = self.measure_value(body)?;
+        Ok(Item {
+            is_null: false,
+            value,
+            length: bytes.len() - rest.len(),
+        })
+    }
+
+    /// The value's length, and what follows the item.
+    #[inline(always)]
+    fn measure_value<'b>(&self, bytes: &'b [u8]) -> Result<(usize, &'b [u8]), u32> {
+        let limit = usize::from(self.limit);
+        match (self.layout, bytes) {
+            (Layout::Fixed, _) => Ok((limit, bytes.get(limit..).ok_or(SHORT_DATA)?)),
+            (Layout::Short, &[count, ref body @ ..]) => self.counted(count.into(), body),
+            (Layout::Variable, &[0x80..=0xFF, _, ..]) => Err(BAD_COUNT),
+            (Layout::Variable, &[high, low, ref body @ ..]) => {
+                self.counted(u16::from_be_bytes([high, low]).into(), body)
+            }
+            (Layout::Terminated, _) => self.terminated(bytes),
+            _ => Err(SHORT_DATA),
         }
     }
 
-    #[inline]
-    fn measure_value(&self, bytes: &[u8]) -> Result<Item, u32> {
-        let limit = usize::from(self.length);
-        match self.layout {
-            Layout::Fixed if limit <= bytes.len() => Ok(Item::new(limit, limit)),
-            Layout::Fixed => Err(SHORT_DATA),
-            Layout::Short(space) => match *bytes {
-                [count, ref body @ ..] => counted(space, limit, 1, count.into(), body),
-                [] => Err(SHORT_DATA),
-            },
-            Layout::Variable(space) => match *bytes {
-                [0x80..=0xFF, _, ..] => Err(BAD_COUNT),
-                [high, low, ref body @ ..] => {
-                    let count = u16::from_be_bytes([high, low]);
-                    counted(space, limit, 2, count.into(), body)
-                }
-                _ => Err(SHORT_DATA),
-            },
-            Layout::Terminated(space) => terminated(space, limit, bytes),
+    #[inline(always)]
+    fn counted<'b>(&self, count: usize, body: &'b [u8]) -> Result<(usize, &'b [u8]), u32> {
+        let limit = usize::from(self.limit);
+        if count > limit {
+            return Err(BAD_COUNT);
         }
+        let sent = if self.is_reserved { limit } else { count };
+        Ok((count, body.get(sent..).ok_or(SHORT_DATA)?))
     }
-}
 
-#[inline]
-fn counted(
-    space: Space,
-    limit: usize,
-    lead: usize,
-    count: usize,
-    body: &[u8],
-) -> Result<Item, u32> {
-    let sent = match space {
-        Space::Free => count,
-        _ if count > limit => return Err(BAD_COUNT),
-        Space::Limited => count,
-        Space::Reserved => limit,
-    };
-    if sent > body.len() {
-        return Err(SHORT_DATA);
+    #[inline(always)]
+    fn terminated<'b>(&self, bytes: &'b [u8]) -> Result<(usize, &'b [u8]), u32> {
+        let space = usize::from(self.limit) + 1;
+        let (reach, failure) = match bytes.get(..space) {
+            Some(reach) => (reach, NO_END),
+            None if self.is_reserved => return Err(SHORT_DATA),
+            None => (bytes, SHORT_DATA),
+        };
+        let end = reach.iter().position(|&byte| byte == 0).ok_or(failure)?;
+        let sent = if self.is_reserved { space } else { end + 1 };
+        Ok((end, bytes.get(sent..).ok_or(SHORT_DATA)?))
     }
-    Ok(Item::new(count, lead + sent))
-}
-
-#[inline]
-fn terminated(space: Space, limit: usize, bytes: &[u8]) -> Result<Item, u32> {
-    match (space, bytes.get(..limit + 1)) {
-        (Space::Free, _) | (Space::Limited, None) => {
-            let end = first_zero(bytes).ok_or(SHORT_DATA)?;
-            Ok(Item::new(end, end + 1))
-        }
-        (Space::Limited, Some(reach)) => {
-            let end = first_zero(reach).ok_or(NO_END)?;
-            Ok(Item::new(end, end + 1))
-        }
-        (Space::Reserved, Some(reach)) => {
-            let end = first_zero(reach).ok_or(NO_END)?;
-            Ok(Item::new(end, limit + 1))
-        }
-        (Space::Reserved, None) => Err(SHORT_DATA),
-    }
-}
-
-fn first_zero(bytes: &[u8]) -> Option<usize> {
-    let text = CStr::from_bytes_until_nul(bytes).ok()?;
-    Some(text.count_bytes())
 }
