@@ -10,6 +10,55 @@ use Rattle.fdoca.specs.FieldType.{LengthField, Layout, fixed, counted, t
 use Rattle.fdoca.specs.Item.{Measured, refused, item, Space, unbounded, limited, reserved, space, width, isNegative, isOver, unused, measureFixed, measureBody, measureCounted, beforeZero, measureTerminated, measureValue, indicated, measureNullable, measureItem}
 use Rattle.fdoca.proofs.Tests.{by-test, by-le, by-lt}
 
+-- how long a layout's length field is, and the value whose length it tells, where both stand at the beginning of the bytes s
+unfoldable pub widthOf : Layout → ℕ
+widthOf fixed = 0
+widthOf (counted k) = width k
+widthOf terminated = 0
+
+unfoldable pub valueLength : Layout → (F : ℕ) → List ℕ → ℕ
+valueLength fixed F s = F
+valueLength (counted k) F s = big (take (width k) s)
+valueLength terminated F s = beforeZero s
+
+-- holds of every outcome for a value
+pub record HoldsFor (l : Layout) (F : ℕ) (s : List ℕ) (P : Measured → Type 0) : Type 0 where
+  pub short : P (refused 13)
+  pub count : P (refused 14)
+  pub no-end : P (refused 15)
+  pub found : (r : ℕ) → widthOf l + valueLength l F s + r ≤ length s → P (item false (widthOf l) (valueLength l F s) r)
+
+module _ (s : List ℕ) (P : Measured → Type 0) where
+  of-fixed : (F : ℕ) → HoldsFor fixed F s P → P (measureFixed F s)
+  unfolding measureFixed widthOf valueLength
+  of-fixed F h = by-le P F (length s) (λ t. h .found 0 (omega arith)) (λ t. h .short)
+
+  of-counted : (k : LengthField) (F : ℕ) (sp : Space) → HoldsFor (counted k) F s P → P (measureCounted k sp s)
+  unfolding measureCounted measureBody widthOf valueLength
+  of-counted k F sp h =
+      by-lt P (length s) (width k) (λ t. h .short)
+      (λ t. by-test P (isNegative k (big (take (width k) s))) (λ u. h .count)
+      (λ u. by-test P (isOver sp (big (take (width k) s))) (λ v. h .count)
+      (λ v. by-le P (big (take (width k) s) + unused sp (big (take (width k) s))) (length s - width k)
+      (λ o. h .found (unused sp (big (take (width k) s))) (omega arith)) (λ o. h .short))))
+
+  of-terminated : (F : ℕ) (sp : Space) → HoldsFor terminated F s P → P (measureTerminated sp s)
+  unfolding measureTerminated widthOf valueLength
+  of-terminated G unbounded h =
+      by-lt P (beforeZero s) (length s) (λ t. h .found 1 (omega arith)) (λ t. h .short)
+  of-terminated G (limited F) h =
+      by-lt P (beforeZero s) (min (F + 1) (length s)) (λ t. h .found 1 (omega arith))
+      (λ t. by-lt P (length s) (F + 1) (λ u. h .short) (λ u. h .no-end))
+  of-terminated G (reserved F) h =
+      by-lt P (length s) (F + 1) (λ t. h .short)
+      (λ t. by-le P (beforeZero s) F (λ u. h .found (F + 1 - beforeZero s) (omega arith)) (λ u. h .no-end))
+
+  pub of-layout : (l : Layout) (mode F : ℕ) → HoldsFor l F s P → P (measureValue l mode F s)
+  unfolding measureValue
+  of-layout fixed mode F h = of-fixed F h
+  of-layout (counted k) mode F h = of-counted k F (space mode F) h
+  of-layout terminated mode F h = of-terminated F (space mode F) h
+
 -- holds of every outcome over n bytes
 pub record Holds (n : ℕ) (P : Measured → Type 0) : Type 0 where
   pub short : P (refused 13)
@@ -17,42 +66,10 @@ pub record Holds (n : ℕ) (P : Measured → Type 0) : Type 0 where
   pub no-end : P (refused 15)
   pub found : (z : Bool) (p v r : ℕ) → p + v + r ≤ n → P (item z p v r)
 
-module _ (s : List ℕ) (P : Measured → Type 0) (h : Holds (length s) P) where
-  of-fixed : (F : ℕ) → P (measureFixed F s)
-  unfolding measureFixed
-  of-fixed F = by-le P F (length s) (λ t. h .found false 0 F 0 (omega arith)) (λ t. h .short)
-
-  of-body : (sp : Space) (w L left : ℕ) → w + left ≤ length s → P (measureBody sp w L left)
-  unfolding measureBody
-  of-body sp w L left k =
-      by-le P (L + unused sp L) left (λ t. h .found false w L (unused sp L) (omega arith)) (λ t. h .short)
-
-  of-counted : (k : LengthField) (sp : Space) → P (measureCounted k sp s)
-  unfolding measureCounted
-  of-counted k sp =
-      by-lt P (length s) (width k) (λ t. h .short)
-      (λ t. by-test P (isNegative k (big (take (width k) s))) (λ u. h .count)
-      (λ u. by-test P (isOver sp (big (take (width k) s))) (λ v. h .count)
-      (λ v. of-body sp (width k) (big (take (width k) s)) (length s - width k) (omega arith))))
-
-  of-terminated : (sp : Space) → P (measureTerminated sp s)
-  unfolding measureTerminated
-  of-terminated unbounded =
-      by-lt P (beforeZero s) (length s) (λ t. h .found false 0 (beforeZero s) 1 (omega arith)) (λ t. h .short)
-  of-terminated (limited F) =
-      by-lt P (beforeZero s) (min (F + 1) (length s)) (λ t. h .found false 0 (beforeZero s) 1 (omega arith))
-      (λ t. by-lt P (length s) (F + 1) (λ u. h .short) (λ u. h .no-end))
-  of-terminated (reserved F) =
-      by-lt P (length s) (F + 1) (λ t. h .short)
-      (λ t. by-le P (beforeZero s) F
-      (λ u. h .found false 0 (beforeZero s) (F + 1 - beforeZero s) (omega arith))
-      (λ u. h .no-end))
-
-  pub of-value : (l : Layout) (mode F : ℕ) → P (measureValue l mode F s)
-  unfolding measureValue
-  of-value fixed mode F = of-fixed F
-  of-value (counted k) mode F = of-counted k (space mode F)
-  of-value terminated mode F = of-terminated (space mode F)
+pub of-value : (s : List ℕ) (P : Measured → Type 0) → Holds (length s) P → (l : Layout) (mode F : ℕ) → P (measureValue l mode F s)
+of-value s P h l mode F =
+    of-layout s P l mode F
+    (record { short = h .short; count = h .count; no-end = h .no-end; found = λ r k. h .found false (widthOf l) (valueLength l F s) r k })
 
 of-nullable : (s : List ℕ) (P : Measured → Type 0) → Holds (length s) P → (l : Layout) (mode F : ℕ) → P (measureNullable l mode F s)
 unfolding measureNullable

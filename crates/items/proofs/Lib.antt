@@ -1,3 +1,4 @@
 pub mod Inside
 pub mod Scan
 pub mod Ways
+pub mod Shapes

@@ -3,23 +3,25 @@
 -- Assumes nothing.
 use Prim.Native.Nat.{ℕ, _+_, _-_, _*_, _^_, _<_, _≤_, min}
 use mathlib.Core.Path.{_≡_, refl, sym, ap, _∙_}
-use mathlib.Core.Bool.{Bool, true, false}
+use mathlib.Core.Bool.{Bool, true, false, true≢false}
 use mathlib.Core.List.{List, [], _∷_}
-use native.Mathlib.Nat.{le-of-eq, le-of-lt, add-comm}
+use native.Mathlib.Nat.{le-of-eq, le-of-lt, add-zero, add-comm}
 use native.Mathlib.Omega.{arith}
 use lib.Dec.{leb, eqb, lit≤}
 use lib.ListN.{length, getD, take, drop, length-take, length-drop, drop-of-length-le}
 use lib.Seq.{take-all, length-take-le}
 use mir.Syntax.{w64}
 use mir.Val.{Fits}
-use borrow.Author.Tests.{lt-ltb, le-ltb, le-leb, lt-leb, eq-eqb, ne-eqb}
+use borrow.Author.Tests.{lt-ltb, le-ltb, le-leb, lt-leb, eq-eqb, ne-eqb, not-true, not-false}
 use Rattle.fdoca.specs.Basics.{if_then_else_, big}
 use Rattle.fdoca.specs.FieldType.{LengthField, signedTwo, unsignedOne, Layout}
 use Rattle.fdoca.specs.Item.{refused, item, Space, unbounded, limited, reserved, space, width, isOver, unused, measureBody, measureCounted, beforeZero, measureTerminated, measureValue, indicated, measureNullable, measureItem}
+use Rattle.fdoca.specs.Item as defined
 use Rattle.items.specs.declared.Measured.{Measured}
-use Rattle.items.specs.Answer.{answer, measureSent, measureRanged}
-use Rattle.items.proofs.Inside.{numbered-value, is-item, is-refused, is-within}
-use Rattle.fdoca.proofs.Within.{within-value}
+use Rattle.items.specs.Answer.{answer, measureSent, measureRanged, measureIndicator, movedBy}
+use Rattle.items.proofs.Inside.{Numbered, numbered-value, is-item, is-refused, is-within}
+use Rattle.fdoca.proofs.Tests.{by-test}
+use Rattle.fdoca.proofs.Within.{Within, within-value}
 use Rattle.items.proofs.Scan.{zero-among}
 
 -- what is sent is the value with the space that it leaves unused
@@ -55,7 +57,7 @@ module _ (mode f w L left : ℕ) (m : Measured) where
 pub ruleset ranged-ways = (unbounded-sent, over-refused, reserved-sent, limited-sent)
 
 -- the length fields, as the bytes that they have
-one-byte : (s : List ℕ) → 1 ≤ length s → big (take 1 s) ≡ getD s 0 0
+pub one-byte : (s : List ℕ) → 1 ≤ length s → big (take 1 s) ≡ getD s 0 0
 unfolding big
 one-byte [] l = absurd (let z : ⊥ = omega arith in z)
 one-byte (a ∷ s) l = omega arith
@@ -148,66 +150,127 @@ pub ruleset bounded-ways = (bounded-rest, bounded-found, bounded-none, next)
 pub ruleset padded-ways = (padded-short, padded-found, padded-none, next, le-of-lt)
 
 -- the part from a place on
-rest : (s : List ℕ) (at : ℕ) → take (length s - at) (drop at s) ≡ drop at s
+pub rest : (s : List ℕ) (at : ℕ) → take (length s - at) (drop at s) ≡ drop at s
 rest s at = take-all (length s - at) (drop at s) (le-of-eq (length-drop at s))
 
+-- what a null indicator tells
+module _ (s : List ℕ) where
+  pub no-indicator : (b : Bool) (m : Measured) → b ≡ false → m ≡ answer (item false 0 0 0) → m ≡ answer (measureIndicator b s)
+  unfolding measureIndicator
+  no-indicator b m t h = rw t h
+
+  pub no-byte : (b : Bool) (m : Measured) → b ≡ true → length s ≡ 0 → m ≡ answer (refused 13) → m ≡ answer (measureIndicator b s)
+  unfolding measureIndicator
+  no-byte b m t e h = go s e
+    where
+      go : (s : List ℕ) → length s ≡ 0 → m ≡ answer (measureIndicator b s)
+      go [] e = rw t h
+      go (a ∷ s) e = absurd (let z : ⊥ = omega arith in z)
+
+first-byte : (s : List ℕ) → (length s ≡ 0 → ⊥) → measureIndicator true s ≡ (if leb 128 (getD s 0 0) then item true 1 0 0 else item false 1 0 0)
+unfolding measureIndicator
+first-byte [] e = absurd (e refl)
+first-byte (b ∷ s) e = refl
+
+module _ (s : List ℕ) (b : Bool) (t : b ≡ true) (e : length s ≡ 0 → ⊥) where
+  pub no-null : (m : Measured) → getD s 0 0 < 128 → m ≡ answer (item false 1 0 0) → m ≡ answer (measureIndicator b s)
+  no-null m k h = simp (t, first-byte s e, lt-leb _ _ k) h
+
+  pub a-null : 128 ≤ getD s 0 0 → answer (item true 1 0 0) ≡ answer (measureIndicator b s)
+  a-null k = simp (t, first-byte s e, le-leb _ _ k)
+
+pub ruleset indicator-ways = (no-indicator, no-byte, no-null, a-null, not-true, not-false)
+
+-- an item by what its null indicator tells: none, a null, or the value behind so many bytes
+abbrev pub moved : ℕ → defined.Measured → defined.Measured
+moved k (refused n) = refused n
+moved k (item z p v r) = item z (p + k) v r
+
+abbrev pub told : defined.Measured → (ℕ → defined.Measured) → defined.Measured
+told (refused n) g = refused n
+told (item true p v r) g = item true p v r
+told (item false p v r) g = moved p (g p)
+
 module _ (l : Layout) (mode f : ℕ) where
-  no-byte : (s : List ℕ) → length s ≡ 0 → measureNullable l mode f s ≡ refused 13
-  unfolding measureNullable
-  no-byte [] e = refl
-  no-byte (b ∷ s) e = absurd (let z : ⊥ = omega arith in z)
+  moved-0 : (x : defined.Measured) → x ≡ moved 0 x
+  moved-0 (refused n) = refl
+  moved-0 (item z p v r) = rw add-zero
 
-  first-byte : (s : List ℕ) → (length s ≡ 0 → ⊥) → measureNullable l mode f s ≡ (if leb 128 (getD s 0 0) then item true 1 0 0 else indicated (measureValue l mode f (drop 1 s)))
-  unfolding measureNullable
-  first-byte [] e = absurd (e refl)
-  first-byte (b ∷ s) e = refl
+  moved-1 : (x : defined.Measured) → indicated x ≡ moved 1 x
+  moved-1 (refused n) = refl
+  moved-1 (item z p v r) = rw (add-comm 1 p)
 
-module _ (l : Layout) (mode f : ℕ) (s : List ℕ) where
-  pub indicated-null : (length s ≡ 0 → ⊥) → 128 ≤ getD s 0 0 → answer (item true 1 0 0) ≡ answer (measureNullable l mode f s)
-  indicated-null e t = simp (first-byte l mode f s e, le-leb _ _ t)
+  pub by-indicator : (b : Bool) (s : List ℕ) → measureItem b l mode f s ≡ told (measureIndicator b s) (λ k. measureValue l mode f (drop k s))
+  unfolding measureIndicator measureItem measureNullable
+  by-indicator false s = moved-0 (measureValue l mode f s)
+  by-indicator true [] = refl
+  by-indicator true (b ∷ s) = go (leb 128 b)
+    where
+      go : (t : Bool) → (if t then item true 1 0 0 else indicated (measureValue l mode f s)) ≡ told (if t then item true 1 0 0 else item false 1 0 0) (λ k. measureValue l mode f (drop k (b ∷ s)))
+      go true = refl
+      go false = moved-1 (measureValue l mode f s)
 
-  behind : (length s ≡ 0 → ⊥) → getD s 0 0 < 128 → measureNullable l mode f s ≡ indicated (measureValue l mode f (take (length s - 1) (drop 1 s)))
-  behind e t = simp (first-byte l mode f s e, lt-leb _ _ t, rest)
+module _ (m : Measured) where
+  refused-told : (x : defined.Measured) (g : ℕ → defined.Measured) → m ≡ answer x → (m .number ≡ 0 → ⊥) → m ≡ answer (told x g)
+  unfolding answer
+  refused-told (refused n) g h k = h
+  refused-told (item z p v r) g h k = absurd (k (rw h))
 
-module _ (l : Layout) (mode f : ℕ) (s : List ℕ) (m : Measured) where
-  pub indicated-short : length s ≡ 0 → m ≡ answer (refused 13) → m ≡ answer (measureNullable l mode f s)
-  indicated-short e h = rw (no-byte l mode f s e) h
+  null-told : (x : defined.Measured) (g : ℕ → defined.Measured) → m ≡ answer x → m .null ≡ true → m ≡ answer (told x g)
+  unfolding answer
+  null-told (refused n) g h k = h
+  null-told (item true p v r) g h k = h
+  null-told (item false p v r) g h k = absurd (true≢false (sym k ∙ rw h))
 
-  -- the indicator's byte can be added
-  pub prefix-fits : (length s ≡ 0 → ⊥) → length s < 2 ^ 64 → m ≡ answer (measureValue l mode f (take (length s - 1) (drop 1 s))) → Fits w64 (m .prefix + 1)
-  prefix-fits e k h =
-      let t : List ℕ = take (length s - 1) (drop 1 s) in
-      let q : m .prefix + m .value + m .padding ≤ length t = is-within m (length t) _ (within-value l mode f t) h in
-      let n : length t ≤ length s - 1 = simp (length-take, length-drop) (omega arith) in
-      record { fits = omega arith }
+moved-by : (m : Measured) (x : defined.Measured) (k : ℕ) → Numbered x → m ≡ answer x → movedBy k m ≡ answer (moved k x)
+unfolding answer movedBy
+moved-by m (refused n) k y h = rw h (simp (ne-eqb n 0 (λ q. omega arith)))
+moved-by m (item z p v r) k y h = rw h
 
-  pub indicated-item : (length s ≡ 0 → ⊥) → getD s 0 0 < 128 → m ≡ answer (measureValue l mode f (take (length s - 1) (drop 1 s))) → m .number ≡ 0 → answer (item (m .null) (m .prefix + 1) (m .value) (m .padding)) ≡ answer (measureNullable l mode f s)
-  indicated-item e t h z =
-      let q : measureValue l mode f (take (length s - 1) (drop 1 s)) ≡ item (m .null) (m .prefix) (m .value) (m .padding) = is-item m _ (numbered-value l mode f _) h z in
-      rw (behind l mode f s e t, q, add-comm 1 (m .prefix))
+numbered-indicator : (b : Bool) (s : List ℕ) → Numbered (measureIndicator b s)
+unfolding measureIndicator
+numbered-indicator false s = tt
+numbered-indicator true [] = omega arith
+numbered-indicator true (b ∷ s) = by-test Numbered (leb 128 b) (λ t. tt) (λ t. tt)
 
-  pub indicated-refused : (length s ≡ 0 → ⊥) → getD s 0 0 < 128 → m ≡ answer (measureValue l mode f (take (length s - 1) (drop 1 s))) → (m .number ≡ 0 → ⊥) → m ≡ answer (measureNullable l mode f s)
-  indicated-refused e t h z =
-      let q : measureValue l mode f (take (length s - 1) (drop 1 s)) ≡ refused (m .number) = is-refused m _ h z in
-      rw (behind l mode f s e t, q) (h ∙ ap answer q)
+within-indicator : (b : Bool) (s : List ℕ) → Within (length s) (measureIndicator b s)
+unfolding measureIndicator
+within-indicator false s = omega arith
+within-indicator true [] = tt
+within-indicator true (b ∷ s) = by-test (Within (length (b ∷ s))) (leb 128 b) (λ t. omega arith) (λ t. omega arith)
 
-pub ruleset indicated-ways = (indicated-short, indicated-null, indicated-item, indicated-refused)
+module _ (b : Bool) (s : List ℕ) (m : Measured) (h : m ≡ answer (measureIndicator b s)) where
+  pub indicator-inside : m .prefix ≤ length s
+  indicator-inside = omega (arith, is-within m (length s) (measureIndicator b s) (within-indicator b s) h)
+
+  module _ (l : Layout) (mode f : ℕ) where
+    pub measured-refused : (m .number ≡ 0 → ⊥) → m ≡ answer (measureItem b l mode f s)
+    measured-refused n = rw (by-indicator l mode f b s) (refused-told m (measureIndicator b s) _ h n)
+
+    pub measured-null : m .null ≡ true → m ≡ answer (measureItem b l mode f s)
+    measured-null k = rw (by-indicator l mode f b s) (null-told m (measureIndicator b s) _ h k)
+
+    module _ (v : Measured) (e : v ≡ answer (measureValue l mode f (take (length s - m .prefix) (drop (m .prefix) s)))) where
+      pub moved-fits : length s < 2 ^ 64 → v .prefix + m .prefix < 18446744073709551616
+      moved-fits k =
+          let t : List ℕ = take (length s - m .prefix) (drop (m .prefix) s) in
+          let q : v .prefix + v .value + v .padding ≤ length t = is-within v (length t) _ (within-value l mode f t) e in
+          let n : length t ≤ length s - m .prefix = simp (length-take, length-drop) (omega arith) in
+          let i : m .prefix ≤ length s = indicator-inside in
+          omega arith
+
+      pub measured-value : (r : Measured) → m .number ≡ 0 → m .null ≡ false → r ≡ movedBy (m .prefix) v → r ≡ answer (measureItem b l mode f s)
+      measured-value r z k q =
+          let x : measureIndicator b s ≡ item false (m .prefix) (m .value) (m .padding) = rw k at (is-item m (measureIndicator b s) (numbered-indicator b s) h z) in
+          rw (by-indicator l mode f b s, x, ← rest s (m .prefix)) (q ∙ moved-by v _ (m .prefix) (numbered-value l mode f _) e)
+
+pub ruleset measured-ways = (measured-refused, measured-null, measured-value, indicator-inside, moved-fits)
 
 module _ (isNullable : Bool) (l : Layout) (mode f : ℕ) (s : List ℕ) (m : Measured) where
-  pub measured-nullable : isNullable ≡ true → m ≡ answer (measureNullable l mode f s) → m ≡ answer (measureItem isNullable l mode f s)
-  unfolding measureItem
-  measured-nullable t h = simp t h
-
-  pub measured-plain : isNullable ≡ false → m ≡ answer (measureValue l mode f s) → m ≡ answer (measureItem isNullable l mode f s)
-  unfolding measureItem
-  measured-plain t h = simp t h
-
   pub measured-at : (at : ℕ) → m ≡ answer (measureItem isNullable l mode f (take (length s - at) (drop at s))) → m ≡ answer (measureItem isNullable l mode f (drop at s))
   measured-at at h = rw rest at h
 
   pub measured-past : (at : ℕ) → length s < at → m ≡ answer (measureItem isNullable l mode f (take 0 s)) → m ≡ answer (measureItem isNullable l mode f (drop at s))
   measured-past at k h = rw (drop-of-length-le s (le-of-lt k)) h
-
-pub ruleset measured-ways = (measured-nullable, measured-plain)
 
 pub ruleset place-ways = (measured-at, measured-past)

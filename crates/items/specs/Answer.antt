@@ -1,7 +1,8 @@
 -- The code's struct as what it stands for in the papers' definitions, and two steps of these.
-use Prim.Native.Nat.{ℕ, _-_}
-use mathlib.Core.Bool.{false}
-use lib.Dec.{leb}
+use Prim.Native.Nat.{ℕ, _+_, _-_}
+use mathlib.Core.Bool.{Bool, true, false}
+use mathlib.Core.List.{List, [], _∷_}
+use lib.Dec.{leb, eqb}
 use Rattle.fdoca.specs.Basics.{if_then_else_}
 use Rattle.fdoca.specs.Item.{refused, item, Space, isOver, measureBody}
 use Rattle.fdoca.specs.Item as defined
@@ -19,3 +20,15 @@ measureSent w L size left = if leb size left then item false w L (size - L) else
 -- What follows a length field that is not negative.
 unfoldable pub measureRanged : Space → (w L left : ℕ) → defined.Measured
 measureRanged sp w L left = if isOver sp L then refused 14 else measureBody sp w L left
+
+-- What a null indicator tells: an item that holds no more than it, or a refusal. A form that is not nullable has none.
+unfoldable pub measureIndicator : (isNullable : Bool) → List ℕ → defined.Measured
+measureIndicator false s = item false 0 0 0
+measureIndicator true [] = refused 13
+measureIndicator true (b ∷ s) = if leb 128 b then item true 1 0 0 else item false 1 0 0
+
+-- An answer whose item stands behind `skip` bytes, with them.
+unfoldable pub movedBy : (skip : ℕ) → Measured → Measured
+movedBy skip m =
+    if eqb (m .number) 0 then record { number = 0; null = m .null; prefix = m .prefix + skip; value = m .value; padding = m .padding }
+    else m

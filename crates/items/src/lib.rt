@@ -1,12 +1,14 @@
 // One item of a data block: whether it is null, and how its bytes are laid out.
 ghost use mathlib.Core.Path.{_≡_};
-ghost use Prim.Native.Nat.{_<_, _≤_};
+ghost use Prim.Native.Nat.{_+_, _<_, _≤_};
 ghost use mathlib.Core.Bool.{false};
-ghost use lib.ListN.{drop};
+ghost use lib.ListN.{length, drop};
 ghost use Rattle.fdoca.specs.FieldType.{signedTwo, unsignedOne};
-ghost use Rattle.fdoca.specs.Item.{refused, item, unbounded, limited, reserved, space, measureFixed, measureCounted, beforeZero, measureTerminated, measureValue, measureNullable, measureItem};
+ghost use Rattle.fdoca.specs.Item.{refused, item, unbounded, limited, reserved, space, measureFixed, measureCounted, beforeZero, measureTerminated, measureValue, measureItem};
+ghost use Rattle.fdoca.proofs.Outcomes.{widthOf, valueLength};
 ghost use Rattle.field_types.specs.Rows.{layoutOf};
-ghost use Rattle.items.specs.Answer.{answer, measureSent, measureRanged};
+ghost use Rattle.items.specs.Answer.{answer, measureSent, measureRanged, measureIndicator, movedBy};
+ghost use Rattle.items.specs.Known.{Good, PartsOf};
 
 // What measuring an item finds. A number other than 0 refuses it. Otherwise the item is three runs of bytes: what precedes the value
 // (null indicator and length field), the value, and what follows it (terminator and reserved space).
@@ -16,6 +18,13 @@ pub struct Measured {
     pub prefix: usize,
     pub value: usize,
     pub padding: usize,
+}
+
+// An item up to its value's end: the null mark, how many bytes precede the value, and how many it has.
+pub struct Parts {
+    pub null: bool,
+    pub prefix: usize,
+    pub value: usize,
 }
 
 // The data end before the item does.
@@ -49,13 +58,6 @@ fn found(prefix: usize, value: usize, padding: usize) -> Measured
         value: value,
         padding: padding,
     }
-}
-
-// A byte as a length.
-fn wide(b: u8) -> usize
-    ensures { λ r. ⌜ (r ≡ b) × (r < 256) ⌝ }
-{
-    b as usize
 }
 
 // A value of F bytes.
@@ -102,7 +104,7 @@ fn counted_one(s: &[u8], mode: u8, f: usize) -> Measured
     if s.len() < 1 {
         return refusal(SHORT_DATA);
     }
-    ranged(1, wide(s[0]), s.len() - 1, mode, f)
+    ranged(1, field_types::wide(s[0]), s.len() - 1, mode, f)
 }
 
 // A length field of two bytes, signed, most significant first.
@@ -116,15 +118,16 @@ fn counted_two(s: &[u8], mode: u8, f: usize) -> Measured
     if 128 <= high {
         return refusal(BAD_COUNT);
     }
-    let l = wide(high) * 256 + wide(s[1]);
+    let l = field_types::wide(high) * 256 + field_types::wide(s[1]);
     ranged(2, l, s.len() - 2, mode, f)
 }
 
-// How many bytes stand before the first zero byte: all of them where none is zero.
-fn first_zero(s: &[u8]) -> usize
+// How many bytes stand before the first zero byte, all of them where none is zero; none of the first `from` is.
+fn zero_from(s: &[u8], from: usize) -> usize
+    requires { ⌜ (from ≤ length (now s)) × (beforeZero (now s) ≡ from + beforeZero (drop from (now s))) ⌝ }
     ensures { λ r. ⌜ r ≡ beforeZero (now (s .entry)) ⌝ }
 {
-    let mut i = 0;
+    let mut i = from;
     while i < s.len() {
         if s[i] == 0 {
             return i;
@@ -132,6 +135,29 @@ fn first_zero(s: &[u8]) -> usize
         i += 1;
     }
     i
+}
+
+// The same from the beginning on, four bytes at a time.
+fn first_zero(s: &[u8]) -> usize
+    ensures { λ r. ⌜ r ≡ beforeZero (now (s .entry)) ⌝ }
+{
+    let mut i = 0;
+    while 4 <= s.len() - i {
+        if s[i] == 0 {
+            return i;
+        }
+        if s[i + 1] == 0 {
+            return i + 1;
+        }
+        if s[i + 2] == 0 {
+            return i + 2;
+        }
+        if s[i + 3] == 0 {
+            return i + 3;
+        }
+        i += 4;
+    }
+    zero_from(s, i)
 }
 
 // F = 0: the item ends with the first zero byte.
@@ -204,34 +230,44 @@ fn value(s: &[u8], layout: u8, mode: u8, f: usize) -> Measured
     terminated_value(s, mode, f)
 }
 
-// An item with a null indicator, of which only the high bit counts. A null is that byte alone.
-fn indicated(s: &[u8], layout: u8, mode: u8, f: usize) -> Measured
-    ensures { λ r. ⌜ r ≡ answer (measureNullable (layoutOf layout) mode f (now (s .entry))) ⌝ }
+// What the null indicator tells, of which only the high bit counts: no item for want of it, a null, which is that byte alone, or how many
+// bytes the value stands behind.
+fn indicator(s: &[u8], nullable: bool) -> Measured
+    ensures { λ r. ⌜ r ≡ answer (measureIndicator nullable (now (s .entry))) ⌝ }
 {
+    if !nullable {
+        return found(0, 0, 0);
+    }
     if s.len() == 0 {
         return refusal(SHORT_DATA);
     }
-    if 128 <= s[0] {
-        return Measured {
-            number: 0,
-            null: true,
-            prefix: 1,
-            value: 0,
-            padding: 0,
-        };
+    if s[0] < 128 {
+        return found(1, 0, 0);
     }
-    let m = value(&s[1..], layout, mode, f);
-    if m.number == 0 {
-        let prefix = m.prefix + 1;
-        return Measured {
-            number: 0,
-            null: m.null,
-            prefix: prefix,
-            value: m.value,
-            padding: m.padding,
-        };
+    Measured {
+        number: 0,
+        null: true,
+        prefix: 1,
+        value: 0,
+        padding: 0,
     }
-    m
+}
+
+// What was measured behind `skip` bytes, with them.
+fn behind(m: Measured, skip: usize) -> Measured
+    requires { ⌜ m .prefix + skip < 18446744073709551616 ⌝ }
+    ensures { λ r. ⌜ r ≡ movedBy skip m ⌝ }
+{
+    if m.number != 0 {
+        return m;
+    }
+    Measured {
+        number: 0,
+        null: m.null,
+        prefix: m.prefix + skip,
+        value: m.value,
+        padding: m.padding,
+    }
 }
 
 // The item at the start of `s`. Its layout is 0 for a value of F bytes, 1 or 2 for a length field of so many bytes, and else a value
@@ -239,10 +275,66 @@ fn indicated(s: &[u8], layout: u8, mode: u8, f: usize) -> Measured
 pub fn measure(s: &[u8], nullable: bool, layout: u8, mode: u8, f: usize) -> Measured
     ensures { λ r. ⌜ r ≡ answer (measureItem nullable (layoutOf layout) mode f (now (s .entry))) ⌝ }
 {
-    if nullable {
-        return indicated(s, layout, mode, f);
+    let told = indicator(s, nullable);
+    if told.number != 0 {
+        return told;
     }
-    value(s, layout, mode, f)
+    if told.null {
+        return told;
+    }
+    let skip = told.prefix;
+    behind(value(&s[skip..], layout, mode, f), skip)
+}
+
+// How long the length field of a layout is.
+fn width(layout: u8) -> usize
+    ensures { λ r. ⌜ (r ≡ widthOf (layoutOf layout)) × (r ≤ 2) ⌝ }
+{
+    if layout == 1 {
+        return 1;
+    }
+    if layout == 2 {
+        return 2;
+    }
+    0
+}
+
+// How long a value is, at its length field or, without one, its first byte.
+fn value_length(s: &[u8], layout: u8, f: usize) -> usize
+    requires { ⌜ widthOf (layoutOf layout) ≤ length (now s) ⌝ }
+    ensures { λ r. ⌜ r ≡ valueLength (layoutOf layout) f (now (s .entry)) ⌝ }
+{
+    if layout == 0 {
+        return f;
+    }
+    if layout == 1 {
+        return field_types::wide(s[0]);
+    }
+    if layout == 2 {
+        return field_types::pair(s[0], s[1]);
+    }
+    first_zero(s)
+}
+
+// The parts of an item that is known to be good.
+pub fn good_parts(s: &[u8], nullable: bool, layout: u8, f: usize) -> Parts
+    requires { ⌜ Good nullable (layoutOf layout) f (now s) ⌝ }
+    ensures { λ r. ⌜ PartsOf nullable (layoutOf layout) f (now (s .entry)) r ⌝ }
+{
+    let head = indicator(s, nullable);
+    if head.null {
+        return Parts {
+            null: true,
+            prefix: head.prefix,
+            value: head.value,
+        };
+    }
+    let skip = head.prefix;
+    Parts {
+        null: false,
+        prefix: skip + width(layout),
+        value: value_length(&s[skip..], layout, f),
+    }
 }
 
 // The item that starts at a place of a data block; past its end no bytes are left.

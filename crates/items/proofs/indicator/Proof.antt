@@ -1,0 +1,45 @@
+-- `items::indicator` meets its contract.
+-- Assumes nothing.
+use borrow.Author.Needs.{needs}
+use Rattle.items.specs.Answer.{answer}
+use Rattle.items.proofs.Ways.{indicator-ways}
+use Rattle.items.proofs.indicator.Statement.{statement}
+use Rattle.items.proofs.indicator.Tie as tie
+
+found-requires : tie.Need-found-requires
+found-requires c κs = search needs
+
+returns : tie.Need-returns
+returns c = search indicator-ways
+
+refusal-requires : tie.Need-refusal-requires
+refusal-requires c κs = search needs
+
+returns-2 : tie.Need-returns-2
+returns-2 c = search indicator-ways
+
+shared-slice-read-if3 : tie.Need-shared-slice-read-if3
+shared-slice-read-if3 c = search needs
+
+found-requires-2 : tie.Need-found-requires-2
+found-requires-2 c κs = search needs
+
+returns-3 : tie.Need-returns-3
+returns-3 c = search indicator-ways
+
+returns-4 : tie.Need-returns-4
+unfolding answer
+returns-4 c = search indicator-ways
+
+pub indicator-spec : {M : Type 1} → statement M
+indicator-spec =
+    tie.close
+    (tie.spec
+    found-requires
+    returns
+    refusal-requires
+    returns-2
+    shared-slice-read-if3
+    found-requires-2
+    returns-3
+    returns-4)
