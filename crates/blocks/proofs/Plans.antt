@@ -19,7 +19,7 @@ use Rattle.descriptors.specs.Holds.{Ready}
 use Rattle.descriptors.proofs.Callers.{for-unfolding}
 use Rattle.walks.specs.declared.Stop.{Stop}
 use Rattle.walks.specs.declared.Found.{Found}
-use Rattle.walks.specs.Finding.{foundOf, itemOf}
+use Rattle.walks.specs.Finding.{foundOf, itemOf, IsPlan}
 use Rattle.walks.specs.Marks.{markOf, stopOf, Marked, Noted}
 use Rattle.walks.proofs.Callers.{as-many, all-noted, found-inside, found-state, found-lent}
 use Rattle.blocks.specs.Answers.{itemsInto, ListedAs, FoundAs}
@@ -28,6 +28,9 @@ module _ (d s z e plan : List ℕ) (id : ℕ) (rd : Ready d s z e id (length pla
   module _ (plan′ : List ℕ) (written : plan′ ≡ sets plan 0 (map entryOf (listOf d id))) where
     planned : Planned plan′ (unfolded d)
     planned = for-unfolding d s z e plan id rd plan′ written
+
+    pub is-plan : IsPlan plan′
+    is-plan = record { fields = unfolded d; planned = planned }
 
     pub found-way : (x : List ℕ) (k : ℕ) (r : Found) → length x ≤ 32768 → ((fs : List Field) → Planned plan′ fs → r ≡ foundOf (itemOf fs x k))
         → FoundAs (itemOf (unfolded d) x k) x r

@@ -6,8 +6,9 @@ use Prim.Native.Nat.{ℕ, zero, suc, _+_, _-_, _≤_, _<_}
 use native.Mathlib.Omega.{arith}
 use mathlib.Core.Bool.{Bool, true, false}
 use mathlib.Core.List.{List, [], _∷_, _++_, map}
+use mathlib.Core.Option.{some}
 use lib.Dec.{ltb}
-use lib.ListN.{length, drop, getD, length-drop, length-map}
+use lib.ListN.{length, drop, getD, getElem?, length-drop, length-map}
 use lib.Seq.{drop-drop}
 use borrow.Author.Tests.{ltb-true, ltb-false}
 use Rattle.fdoca.specs.Basics.{Result, refuse, ok, _>>=_, _>>_, reject}
@@ -182,3 +183,40 @@ cut-append p (f ∷ fs) gs s = go (noteOf f p (measure f s)) (λ q t. cut-append
     go (ok n) ih =
         ap (λ x. x >>= (λ c. ok (with n c))) (ih (p + itemLength n) (drop (itemLength n) s))
         ∙ with-joined n (λ q t. cutFrom q gs t) (cutFrom (p + itemLength n) fs (drop (itemLength n) s))
+
+-- what is noted of an item is what measuring at its start finds
+abbrev pub MeasuredIn : List ℕ → Note → Type 0
+MeasuredIn s n = measure (n .field) (drop (n .start) s) ≡ item (n .isNull) (n .prefix) (n .value) (n .padding)
+
+data AllMeasured (s : List ℕ) : List Note → Type 0 where
+  nil : AllMeasured s []
+  cons : {n : Note} {ns : List Note} → MeasuredIn s n → AllMeasured s ns → AllMeasured s (n ∷ ns)
+
+note-measured : (f : Field) (p : ℕ) (s : List ℕ) → IfOk (MeasuredIn s) (noteOf f p (measure f (drop p s)))
+unfolding noteOf
+note-measured f p s = go (measure f (drop p s)) refl
+  where
+    go : (m : Measured) → measure f (drop p s) ≡ m → IfOk (MeasuredIn s) (noteOf f p m)
+    go (refused k) e = none-owed
+    go (item z l v r) e = let h : MeasuredIn s (record { start = p; field = f; isNull = z; prefix = l; value = v; padding = r }) = e in holds h
+
+cut-measured : (p : ℕ) (fs : List Field) (s : List ℕ) → IfOk (λ c. AllMeasured s (c .notes)) (cutFrom p fs (drop p s))
+unfolding cutFrom
+cut-measured p [] s = holds nil
+cut-measured p (f ∷ fs) s =
+    bind-all (noteOf f p (measure f (drop p s))) (note-measured f p s)
+    (λ n h. bind-all (cutFrom (p + itemLength n) fs (drop (itemLength n) (drop p s))) (rw (drop-drop (itemLength n) p s) (cut-measured (p + itemLength n) fs s))
+    (λ c k. let r : AllMeasured s (with n c .notes) = cons h k in holds r))
+
+all-measured : (fs : List Field) (s : List ℕ) → IfOk (AllMeasured s) (walk fs s)
+unfolding walk
+all-measured fs s =
+    bind-all (cutFrom 0 fs s) (cut-measured 0 fs s) (λ c k. reject-all (ltb 0 (length (c .rest))) 16 (c .end) (λ h. holds k))
+
+nth-measured : (s : List ℕ) (ns : List Note) (k : ℕ) (n : Note) → AllMeasured s ns → getElem? ns k ≡ some n → MeasuredIn s n
+nth-measured s [] k n nil e = absurd (let z : _≡_ {A = ℕ} 0 1 = cc in let o : ⊥ = omega arith in o)
+nth-measured s (x ∷ ns) zero n (cons h t) e = let a : x ≡ n = cc in rw (← a) h
+nth-measured s (x ∷ ns) (suc k) n (cons h t) e = nth-measured s ns k n t e
+
+pub item-measured : (fs : List Field) (s : List ℕ) (ns : List Note) (k : ℕ) (n : Note) → walk fs s ≡ ok ns → getElem? ns k ≡ some n → MeasuredIn s n
+item-measured fs s ns k n e q = nth-measured s ns k n (ok-of (rw e at (all-measured fs s))) q

@@ -40,7 +40,7 @@ record Sound (s : List ℕ) (n : Note) : Type 0 where
   inside : n .start + itemLength n ≤ length s
   proper : Proper (n .field)
 
-item-inside : (p : ℕ) (ns : List Note) (k : ℕ) (n : Note) → map (λ i. i .start) ns ≡ positions p (lengths ns) → getElem? ns k ≡ some n → n .start + itemLength n ≤ p + sum (lengths ns)
+pub item-inside : (p : ℕ) (ns : List Note) (k : ℕ) (n : Note) → map (λ i. i .start) ns ≡ positions p (lengths ns) → getElem? ns k ≡ some n → n .start + itemLength n ≤ p + sum (lengths ns)
 item-inside p [] k n h e = absurd (let z : _≡_ {A = ℕ} 0 1 = cc in let o : ⊥ = omega arith in o)
 item-inside p (x ∷ ns) zero n h e =
     let a : x ≡ n = cc in
@@ -51,7 +51,7 @@ item-inside p (x ∷ ns) (suc k) n h e =
     let b : n .start + itemLength n ≤ p + itemLength x + sum (lengths ns) = item-inside (p + itemLength x) ns k n a e in
     omega arith
 
-item-proper : {ns : List Note} → Noted ns → (k : ℕ) (n : Note) → getElem? ns k ≡ some n → Proper (n .field)
+pub item-proper : {ns : List Note} → Noted ns → (k : ℕ) (n : Note) → getElem? ns k ≡ some n → Proper (n .field)
 item-proper nothing k n e = absurd (let z : _≡_ {A = ℕ} 0 1 = cc in let o : ⊥ = omega arith in o)
 item-proper (item {n = x} h t) zero n e = let a : x ≡ n = cc in rw (← a) h
 item-proper (item h t) (suc k) n e = item-proper t k n e

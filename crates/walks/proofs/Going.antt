@@ -80,7 +80,7 @@ with-behind ns n (refuse k q) = refl
 with-behind ns n (ok c) = rw (append-snoc ns n (c .notes))
 
 -- an item's answer tells it from a refusal
-entry-numbered : (e : ℕ) (s : List ℕ) → Numbered (measureEntry e s)
+pub entry-numbered : (e : ℕ) (s : List ℕ) → Numbered (measureEntry e s)
 unfolding measureEntry
 entry-numbered e s = numbered-item _ _ _ _ s
 

@@ -1,6 +1,6 @@
 -- Marking a plan: the entries of the items noted so far have their marks, the others are as before.
 -- Assumes nothing.
-use Prim.Native.Nat.{ℕ, suc, _+_, _*_, _%_, _<_, _≤_}
+use Prim.Native.Nat.{ℕ, suc, _+_, _-_, _*_, _%_, _<_, _≤_}
 use mathlib.Core.Path.{_≡_, refl, sym, ap, _∙_}
 use mathlib.Core.List.{List, [], _∷_, _++_, map, map-append, append-nil}
 use native.Mathlib.Numerals.{add-one}
@@ -14,9 +14,10 @@ use Rattle.items.specs.declared.Measured.{Measured}
 use Rattle.items.specs.Answer.{answer}
 use Rattle.plans.specs.Plan.{Planned}
 use Rattle.walks.specs.declared.Stop.{Stop}
-use Rattle.walks.specs.Entry.{measureEntry}
+use Rattle.walks.specs.Entry.{measureEntry, Stepped}
 use Rattle.walks.specs.Marks.{stopOf, markOf, Marked}
 use Rattle.walks.proofs.Parts.{entry-part}
+use Rattle.walks.proofs.Steps.{stopped-number, stopped-some, stepped-none, stepped-long}
 use Rattle.walks.proofs.Going.{Going, set-out, long, noteAt, stops, goes-on, has-surplus, has-ended}
 
 -- es was the plan, now it is es′; k entries are marked, and the walk goes on at p
@@ -51,7 +52,11 @@ stopped : (r : Stop) (n p : ℕ) (es : List ℕ) (w : Result (List Note)) → w 
 unfolding stopOf
 stopped r n p es w e q = record { answered = rw e q; noted = λ ns y. absurd (let z : _≡_ {A = ℕ} 0 1 = cc in let o : ⊥ = omega arith in o) }
 
-module _ (es s es′ : List ℕ) (p k : ℕ) (m : Measured) (i : k < length es′) (l : length es′ ≡ length es) (w : Marking es s es′ p k) (h : m ≡ answer (measureEntry (getD es′ k 0) (drop p s))) where
+module _ (es s es′ : List ℕ) (p k step : ℕ) (i : k < length es′) (l : length es′ ≡ length es) (w : Marking es s es′ p k) (small : length s ≤ 32768)
+    (t : Stepped (getD es′ k 0) s p step) where
+  abbrev m : Measured
+  m = answer (measureEntry (getD es′ k 0) (drop p s))
+
   module _ (fs : List Field) (f : Planned es fs) where
     now : MarkingFor es s es′ p k fs
     now = w .each fs f
@@ -60,7 +65,7 @@ module _ (es s es′ : List ℕ) (p k : ℕ) (m : Measured) (i : k < length es�
     inside = omega arith
 
     answer-is : m ≡ answer (measureEntry (getD es k 0) (drop p s))
-    answer-is = h ∙ ap (λ e. answer (measureEntry e (drop p s))) (same-entry now inside)
+    answer-is = ap (λ e. answer (measureEntry e (drop p s))) (same-entry now inside)
 
     more : m .number ≡ 0 → MarkingFor es s (set es′ k (getD es′ k 0 % 281474976710656 + p * 281474976710656)) (p + long m) (suc k) fs
     unfolding markOf
@@ -80,11 +85,15 @@ module _ (es s es′ : List ℕ) (p k : ℕ) (m : Measured) (i : k < length es�
               ∙ ap (λ l. l ++ drop (suc k) es) (sym (map-append markOf (now .notes) (x ∷ [])));
         }
 
-    pub mark-stop : (r : Stop) → (m .number ≡ 0 → ⊥) → r ≡ record { number = m .number; place = p } → Marked r es′ (walk fs s)
-    mark-stop r z q = stopped r (m .number) p es′ (walk fs s) (stops m (at-entry now inside) answer-is z) q
+    pub mark-stop : (r : Stop) → 65536 ≤ step → r ≡ record { number = step - 65536; place = p } → Marked r es′ (walk fs s)
+    mark-stop r o q =
+        stopped r (m .number) p es′ (walk fs s) (stops m (at-entry now inside) answer-is (stopped-some (getD es′ k 0) s p step small t o))
+        (q ∙ rw (stopped-number (getD es′ k 0) s p step small t o))
 
-  pub mark-more : m .number ≡ 0 → Marking es s (set es′ k (getD es′ k 0 % 281474976710656 + p * 281474976710656)) (p + long m) (k + 1)
-  mark-more z = rw add-one (record { each = λ fs f. more fs f z })
+  pub mark-more : step < 65536 → Marking es s (set es′ k (getD es′ k 0 % 281474976710656 + p * 281474976710656)) (p + step) (k + 1)
+  mark-more o =
+      let z : m .number ≡ 0 = stepped-none (getD es′ k 0) s p step small t o in
+      rw (add-one, ← stepped-long (getD es′ k 0) s p step small t o) (record { each = λ fs f. more fs f z })
 
 module _ (es s es′ : List ℕ) (p k : ℕ) (i : length es′ ≤ k) (l : length es′ ≡ length es) (w : Marking es s es′ p k) (r : Stop) (fs : List Field) (f : Planned es fs) where
   none-left : drop k es ≡ []

@@ -1,97 +1,141 @@
--- Finding an item: what is kept is the item of the number asked for, if it is among those noted so far.
+-- Finding an item by its mark, once the walk has found the block good.
 -- Assumes nothing.
-use Prim.Native.Nat.{ℕ, zero, suc, _+_, _<_, _≤_}
+use Prim.Native.Nat.{ℕ, zero, suc, _+_, _-_, _*_, _/_, _%_, _<_, _≤_}
 use mathlib.Core.Path.{_≡_, refl, sym, ap, _∙_}
-use mathlib.Core.List.{List, [], _∷_, _++_}
-use mathlib.Core.Option.{some}
-use native.Mathlib.Numerals.{add-one}
+use mathlib.Core.List.{List, [], _∷_, map}
+use mathlib.Core.Option.{Option, none, some}
+use native.Mathlib.Nat.{le-of-eq}
 use native.Mathlib.Omega.{arith}
-use lib.ListN.{length, getD, drop, getElem?, length-append, drop-of-length-le}
-use lib.Seq.{drop-cons}
-use Rattle.fdoca.specs.Basics.{refuse, the}
-use Rattle.fdoca.specs.Item.{Field}
-use Rattle.fdoca.specs.Walk.{Note}
-use Rattle.fdoca.proofs.Tests.{by-eq}
-use Rattle.items.specs.declared.Measured.{Measured}
-use Rattle.items.specs.Answer.{answer}
+use lib.ListN.{length, getD, take, drop, getElem?, length-map, length-drop}
+use lib.Seq.{take-all}
+use Rattle.fdoca.specs.Basics.{Result, refuse, ok, _>>=_, the}
+use Rattle.fdoca.specs.FieldType.{nullable}
+use Rattle.fdoca.specs.Item.{Field, item, measureItem, measure}
+use Rattle.fdoca.specs.Walk.{Note, walk}
+use Rattle.fdoca.proofs.Stops.{walk-number}
+use Rattle.fdoca.proofs.Cover.{walk-covers, item-measured}
+use Rattle.field_types.specs.Rows.{layoutOf}
+use Rattle.items.specs.declared.Parts.{Parts}
+use Rattle.items.specs.Known.{Good, PartsOf}
 use Rattle.plans.specs.Plan.{entryOf, Planned}
+use Rattle.walks.specs.declared.Stop.{Stop}
 use Rattle.walks.specs.declared.Found.{Found}
 use Rattle.walks.specs.Entry.{measureEntry}
-use Rattle.walks.specs.Finding.{foundOf, itemOf, keptAt}
-use Rattle.walks.proofs.Going.{Going, set-out, long, noteAt, stops, goes-on, has-surplus, has-ended}
+use Rattle.walks.specs.Marks.{stopOf, markOf, Marked}
+use Rattle.walks.specs.Finding.{foundOf, itemOf, IsPlan, MarkIn, IsMark, FoundBy}
+use Rattle.walks.proofs.Parts.{entry-part, mark-part, entry-measures}
+use Rattle.walks.proofs.Callers.{all-noted, item-inside, item-proper}
 
--- of the notes so far, item i
-abbrev soFar : List Note → (i : ℕ) → Found
-soFar ns i = foundOf (the (getElem? ns i) 17 0)
+-- the item of a mark, by the mark's parts
+module _ (s : List ℕ) (e : ℕ) (n : Note) (h : MarkIn s e n) where
+  start-is : e / 281474976710656 ≡ n .start
+  unfolding markOf
+  start-is = rw (h .mark) (mark-part (n .field) (n .start) (h .proper))
 
--- one note more: it is the item with the number of those before it, and the items of other numbers are as before
-last-noted : (ns : List Note) (n : Note) (i : ℕ) → length ns ≡ i → getElem? (ns ++ n ∷ []) i ≡ some n
-last-noted [] n zero h = refl
-last-noted [] n (suc i) h = absurd (let z : ⊥ = omega arith in z)
-last-noted (x ∷ ns) n zero h = absurd (let z : ⊥ = omega arith in z)
-last-noted (x ∷ ns) n (suc i) h = last-noted ns n i (omega arith)
+  entry-is : e % 281474976710656 ≡ entryOf (n .field)
+  unfolding markOf
+  entry-is = rw (h .mark) (entry-part (n .field) (n .start) (h .proper))
 
-others-noted : (ns : List Note) (n : Note) (i : ℕ) → (length ns ≡ i → ⊥) → getElem? (ns ++ n ∷ []) i ≡ getElem? ns i
-others-noted [] n zero h = absurd (h refl)
-others-noted [] n (suc i) h = refl
-others-noted (x ∷ ns) n zero h = refl
-others-noted (x ∷ ns) n (suc i) h = others-noted ns n i (λ e. h (ap suc e))
+  here : take (length s - e / 281474976710656) (drop (e / 281474976710656) s) ≡ drop (n .start) s
+  here = rw start-is (take-all (length s - n .start) (drop (n .start) s) (le-of-eq (length-drop (n .start) s)))
 
-kept-more : (ns : List Note) (kept kept′ : Found) (i k e p : ℕ) (m : Measured) (f : Field) → length ns ≡ k → e ≡ entryOf f
-    → kept ≡ soFar ns i → kept′ ≡ keptAt kept i k e p m → kept′ ≡ soFar (ns ++ noteAt f p m ∷ []) i
-unfolding keptAt foundOf
-kept-more ns kept kept′ i k e p m f c d h q =
-    q ∙ by-eq (λ y. y ≡ soFar (ns ++ noteAt f p m ∷ []) i) k i
-    (λ a. rw (last-noted ns (noteAt f p m) i (c ∙ a), d))
-    (λ a. rw (others-noted ns (noteAt f p m) i (λ b. a (sym c ∙ b))) h)
+  item-here : measureItem (nullable (e / 16777216 % 256)) (layoutOf (e / 1099511627776 % 256)) (e / 4294967296 % 256) (e % 65536) (take (length s - e / 281474976710656) (drop (e / 281474976710656) s))
+      ≡ item (n .isNull) (n .prefix) (n .value) (n .padding)
+  unfolding measureEntry markOf
+  item-here = rw here (ap (λ y. measureEntry y (drop (n .start) s)) (h .mark) ∙ entry-measures (n .field) (n .start) (drop (n .start) s) (h .proper) ∙ h .measured)
 
--- of the plan es, k items are noted, and the walk goes on at p; item i is asked for
-pub record SeekingFor (es s : List ℕ) (i : ℕ) (kept : Found) (p k : ℕ) (fs : List Field) : Type 0 where
-  pub notes : List Note
-  pub going : Going fs s (drop k es) p notes
-  pub count : length notes ≡ k
-  pub kept-is : kept ≡ soFar notes i
+module _ (s : List ℕ) (e : ℕ) (h : IsMark s e) where
+  pub mark-inside : e / 281474976710656 ≤ length s
+  mark-inside = rw (start-is s e (h .note) (h .mark-in)) (h .mark-in .inside)
 
-pub record Seeking (es s : List ℕ) (i : ℕ) (kept : Found) (p k : ℕ) : Type 0 where
-  pub each : (fs : List Field) → Planned es fs → SeekingFor es s i kept p k fs
+  pub mark-good : Good (nullable (e / 16777216 % 256)) (layoutOf (e / 1099511627776 % 256)) (e % 65536) (take (length s - e / 281474976710656) (drop (e / 281474976710656) s))
+  mark-good =
+      record {
+        mode = e / 4294967296 % 256;
+        isNull = h .note .isNull;
+        prefix = h .note .prefix;
+        value = h .note .value;
+        padding = h .note .padding;
+        measured = item-here s e (h .note) (h .mark-in);
+      }
 
-pub seek-start : (es s : List ℕ) (i : ℕ) (kept : Found) → kept ≡ foundOf (refuse 17 0) → Seeking es s i kept 0 0
-seek-start es s i kept q = record { each = λ fs h. record { notes = []; going = set-out fs s es h; count = refl; kept-is = q } }
+pub mark-found : (s : List ℕ) (e : ℕ) (r : Parts)
+    → PartsOf (nullable (e / 16777216 % 256)) (layoutOf (e / 1099511627776 % 256)) (e % 65536) (take (length s - e / 281474976710656) (drop (e / 281474976710656) s)) r
+    → FoundBy s e (record { number = 0; place = 0; start = e / 281474976710656; null = r .null; prefix = r .prefix; value = r .value; entry = e % 281474976710656 })
+unfolding foundOf
+mark-found s e r h =
+    record {
+      each = λ n m.
+          let q : r ≡ record { null = n .isNull; prefix = n .prefix; value = n .value } =
+          h .each (e / 4294967296 % 256) (n .isNull) (n .prefix) (n .value) (n .padding) (item-here s e n m) in
+          rw (start-is s e n m, entry-is s e n m, q);
+    }
 
-module _ (es s : List ℕ) (i : ℕ) (kept : Found) (p k : ℕ) (m : Measured) (l : k < length es) (w : Seeking es s i kept p k) (h : m ≡ answer (measureEntry (getD es k 0) (drop p s))) where
-  module _ (fs : List Field) (f : Planned es fs) where
-    now : SeekingFor es s i kept p k fs
-    now = w .each fs f
+-- an item's mark in a marked plan
+record Nth (ns : List Note) (k : ℕ) : Type 0 where
+  note : Note
+  there : getElem? ns k ≡ some note
+  marked : getD (map markOf ns) k 0 ≡ markOf note
 
-    at-entry : Going fs s (getD es k 0 ∷ drop (suc k) es) p (now .notes)
-    at-entry = rw (drop-cons es k 0 l) at (now .going)
+nth : (ns : List Note) (k : ℕ) → k < length ns → Nth ns k
+nth [] k h = absurd (let z : ⊥ = omega arith in z)
+nth (n ∷ ns) zero h = record { note = n; there = refl; marked = refl }
+nth (n ∷ ns) (suc k) h = let r = nth ns k (omega arith) in record { note = r .note; there = r .there; marked = r .marked }
 
-    pub seek-stop : (r : Found) → (m .number ≡ 0 → ⊥) → r ≡ foundOf (refuse (m .number) p) → r ≡ foundOf (itemOf fs s i)
+none-there : (ns : List Note) (k : ℕ) → length ns ≤ k → getElem? ns k ≡ none
+none-there [] k h = refl
+none-there (n ∷ ns) zero h = absurd (let z : ⊥ = omega arith in z)
+none-there (n ∷ ns) (suc k) h = none-there ns k (omega arith)
+
+-- the walk over the plan es of the fields fs has stopped, and es′ is the plan that it left
+module _ (es s es′ : List ℕ) (stop : Stop) (k : ℕ) (f : (fs : List Field) → Planned es fs → Marked stop es′ (walk fs s)) where
+  module _ (fs : List Field) (p : Planned es fs) where
+    pub find-stop : (r : Found) → (stop .number ≡ 0 → ⊥) → r ≡ foundOf (refuse (stop .number) (stop .place)) → r ≡ foundOf (itemOf fs s k)
+    unfolding itemOf stopOf
+    find-stop r z q = go (walk fs s) (f fs p .answered)
+      where
+        go : (w : Result (List Note)) → stop ≡ stopOf w → r ≡ foundOf (w >>= λ ns. the (getElem? ns k) 17 0)
+        go (refuse n y) a = rw a at q
+        go (ok ns) a = absurd (z (rw a))
+
+    record Noted : Type 0 where
+      notes : List Note
+      walked : walk fs s ≡ ok notes
+      plan-is : es′ ≡ map markOf notes
+
+    noted : stop .number ≡ 0 → Noted
+    unfolding stopOf
+    noted z = go (walk fs s) refl (f fs p .answered) (f fs p .noted)
+      where
+        go : (w : Result (List Note)) → walk fs s ≡ w → stop ≡ stopOf w → ((ns : List Note) → w ≡ ok ns → es′ ≡ map markOf ns) → Noted
+        go (refuse n q) e a m = absurd (let y : n ≡ 0 = rw a at z in let o : ⊥ = omega (arith, walk-number fs s n q e) in o)
+        go (ok ns) e a m = record { notes = ns; walked = e; plan-is = m ns refl }
+
+    long : (z : stop .number ≡ 0) → length es′ ≡ length (noted z .notes)
+    long z = ap length (noted z .plan-is) ∙ length-map (noted z .notes) markOf
+
+    pub find-none : (r : Found) → stop .number ≡ 0 → length es′ ≤ k → r ≡ foundOf (refuse 17 0) → r ≡ foundOf (itemOf fs s k)
     unfolding itemOf
-    seek-stop r z q = simp (stops m at-entry h z) q
+    find-none r z h q = simp (noted z .walked, none-there (noted z .notes) k (omega (arith, long z))) q
 
-    more : (kept′ : Found) → m .number ≡ 0 → kept′ ≡ keptAt kept i k (getD es k 0) p m → SeekingFor es s i kept′ (p + long m) (suc k) fs
-    more kept′ z q =
-        let n = goes-on m at-entry h z in
-        let x : Note = noteAt (n .field) p m in
-        record {
-          notes = now .notes ++ x ∷ [];
-          going = n .going;
-          count = length-append (now .notes) (x ∷ []) ∙ omega (arith, now .count);
-          kept-is = kept-more (now .notes) kept kept′ i k (getD es k 0) p m (n .field) (now .count) (n .entry-is) (now .kept-is) q;
-        }
+    module _ (z : stop .number ≡ 0) (h : k < length es′) where
+      one : Nth (noted z .notes) k
+      one = nth (noted z .notes) k (omega (arith, long z))
 
-  pub seek-more : (kept′ : Found) → m .number ≡ 0 → kept′ ≡ keptAt kept i k (getD es k 0) p m → Seeking es s i kept′ (p + long m) (k + 1)
-  seek-more kept′ z q = rw add-one (record { each = λ fs f. more fs f kept′ z q })
+      mark-in : MarkIn s (getD es′ k 0) (one .note)
+      mark-in =
+          let w = noted z in
+          let c = walk-covers fs s (w .notes) (w .walked) in
+          record {
+            mark = ap (λ l. getD l k 0) (w .plan-is) ∙ one .marked;
+            proper = item-proper (all-noted es fs s (w .notes) p (w .walked)) k (one .note) (one .there);
+            inside = omega (arith, item-inside 0 (w .notes) k (one .note) (c .starts) (one .there), c .total);
+            measured = item-measured fs s (w .notes) k (one .note) (w .walked) (one .there);
+          }
 
-module _ (es s : List ℕ) (i : ℕ) (kept : Found) (p k : ℕ) (l : length es ≤ k) (w : Seeking es s i kept p k) (fs : List Field) (f : Planned es fs) where
-  through : Going fs s [] p (w .each fs f .notes)
-  through = rw (drop-of-length-le es l) at (w .each fs f .going)
+      pub find-item : (r : Found) → FoundBy s (getD es′ k 0) r → r ≡ foundOf (itemOf fs s k)
+      unfolding itemOf
+      find-item r q = simp (noted z .walked, one .there) (q .each (one .note) mark-in)
 
-  pub seek-surplus : (r : Found) → p < length s → r ≡ foundOf (refuse 16 p) → r ≡ foundOf (itemOf fs s i)
-  unfolding itemOf
-  seek-surplus r h q = simp (has-surplus through h) q
-
-  pub seek-done : length s ≤ p → kept ≡ foundOf (itemOf fs s i)
-  unfolding itemOf
-  seek-done h = simp (has-ended through h) (w .each fs f .kept-is)
+  pub find-mark : IsPlan es → stop .number ≡ 0 → k < length es′ → IsMark s (getD es′ k 0)
+  find-mark pl z h = record { note = one (pl .fields) (pl .planned) z h .note; mark-in = mark-in (pl .fields) (pl .planned) z h }

@@ -1,15 +1,16 @@
 -- One item of a block: where it starts, and how its bytes are laid out.
-use Prim.Native.Nat.{ℕ}
+use Prim.Native.Nat.{ℕ, _≤_}
+use mathlib.Core.Path.{_≡_}
 use mathlib.Core.Bool.{false}
-use lib.Dec.{eqb}
 use mathlib.Core.List.{List}
-use lib.ListN.{getElem?}
-use Rattle.fdoca.specs.Basics.{if_then_else_, Result, refuse, ok, _>>=_, the}
+use lib.ListN.{length, getElem?}
+use Rattle.fdoca.specs.Basics.{Result, refuse, ok, _>>=_, the}
 use Rattle.fdoca.specs.Item.{Field}
 use Rattle.fdoca.specs.Walk.{Note, walk}
-use Rattle.plans.specs.Plan.{entryOf}
-use Rattle.items.specs.declared.Measured.{Measured}
+use Rattle.fdoca.proofs.Cover.{MeasuredIn}
+use Rattle.plans.specs.Plan.{entryOf, Proper, Planned}
 use Rattle.walks.specs.declared.Found.{Found}
+use Rattle.walks.specs.Marks.{markOf}
 
 -- A refusal has its number and place, zeros and no null mark; an item has number 0 and place 0.
 unfoldable pub foundOf : Result Note → Found
@@ -20,8 +21,22 @@ foundOf (ok n) = record { number = 0; place = 0; start = n .start; null = n .isN
 unfoldable pub itemOf : List Field → List ℕ → (k : ℕ) → Result Note
 itemOf fs s k = walk fs s >>= λ ns. the (getElem? ns k) 17 0
 
--- What is kept at item k, which was measured at p, where an item is asked for.
-unfoldable pub keptAt : Found → (asked k entry p : ℕ) → Measured → Found
-keptAt kept asked k entry p m =
-    if eqb k asked then record { number = 0; place = 0; start = p; null = m .null; prefix = m .prefix; value = m .value; entry = entry }
-    else kept
+-- The numbers es are a plan.
+pub record IsPlan (es : List ℕ) : Type 0 where
+  pub fields : List Field
+  pub planned : Planned es fields
+
+-- The number e is the mark of an item of the data s.
+pub record MarkIn (s : List ℕ) (e : ℕ) (n : Note) : Type 0 where
+  pub mark : e ≡ markOf n
+  pub proper : Proper (n .field)
+  pub inside : n .start ≤ length s
+  pub measured : MeasuredIn s n
+
+pub record IsMark (s : List ℕ) (e : ℕ) : Type 0 where
+  pub note : Note
+  pub mark-in : MarkIn s e note
+
+-- What is found by such a mark is that item.
+pub record FoundBy (s : List ℕ) (e : ℕ) (r : Found) : Type 0 where
+  pub each : (n : Note) → MarkIn s e n → r ≡ foundOf (ok n)

@@ -9,9 +9,9 @@ ghost use Rattle.fdoca.specs.Walk.{Note, walk};
 ghost use Rattle.fdoca.specs.Calls.{itemList};
 ghost use Rattle.items.specs.Answer.{answer};
 ghost use Rattle.plans.specs.Plan.{Planned};
-ghost use Rattle.walks.specs.Entry.{measureEntry};
+ghost use Rattle.walks.specs.Entry.{measureEntry, isPlain, Stepped};
 ghost use Rattle.walks.specs.Marks.{markOf, Marked, Noted};
-ghost use Rattle.walks.specs.Finding.{foundOf, itemOf, keptAt};
+ghost use Rattle.walks.specs.Finding.{foundOf, itemOf, IsPlan, IsMark, FoundBy};
 
 // Where the walk stops: number and place of a refusal, zeros if the block is good.
 pub struct Stop {
@@ -41,6 +41,9 @@ const LAYOUT: u64 = 1099511627776;
 
 const POSITION: u64 = 281474976710656;
 
+// More than any item's length.
+const REFUSED: usize = 65536;
+
 // The item at a place of the data, by its entry in the plan. It lies within the data.
 pub fn item_at(entry: u64, data: &[u8], at: usize) -> items::Measured
     requires { ⌜ at ≤ length (now «data») ⌝ }
@@ -64,6 +67,35 @@ fn stopped(number: u32, at: usize) -> Stop
     }
 }
 
+// Whether the items of an entry are F bytes without a null indicator.
+fn plain(entry: u64) -> bool
+    ensures { λ r. ⌜ r ≡ isPlain entry ⌝ }
+{
+    if 128 <= entry / CODE % 256 {
+        return false;
+    }
+    entry / LAYOUT % 256 == 0
+}
+
+// The length of the item at a place of the data, or REFUSED and the number of its refusal.
+fn step_at(entry: u64, data: &[u8], at: usize) -> usize
+    requires { ⌜ (at ≤ length (now «data»)) × (length (now «data») ≤ 32768) ⌝ }
+    ensures { λ r. ⌜ Stepped entry (now («data» .entry)) at r ⌝ }
+{
+    if plain(entry) {
+        let f = (entry % ID) as usize;
+        if f <= data.len() - at {
+            return f;
+        }
+        return REFUSED + 13;
+    }
+    let m = item_at(entry, data, at);
+    if m.number != 0 {
+        return REFUSED + m.number as usize;
+    }
+    m.prefix + m.value + m.padding
+}
+
 // The walk over the whole plan and the data. The entry of an item gets its position in the highest 16 bits.
 pub fn mark(plan: &mut [u64], data: &[u8]) -> Stop
     requires { ⌜ length (now «data») ≤ 32768 ⌝ }
@@ -73,12 +105,12 @@ pub fn mark(plan: &mut [u64], data: &[u8]) -> Stop
     let mut k = 0;
     while k < plan.len() {
         let entry = plan[k];
-        let m = item_at(entry, data, at);
-        if m.number != 0 {
-            return stopped(m.number as u32, at);
+        let step = step_at(entry, data, at);
+        if REFUSED <= step {
+            return stopped((step - REFUSED) as u32, at);
         }
         plan[k] = entry % POSITION + at as u64 * POSITION;
-        at += m.prefix + m.value + m.padding;
+        at += step;
         k += 1;
     }
     if at < data.len() {
@@ -112,13 +144,12 @@ pub fn write_list(plan: &[u64], size: usize, list: &mut [u32])
 }
 
 // No item: a refusal's number and place.
-fn refused(number: u32, at: usize) -> Found
-    requires { ⌜ at ≤ 32768 ⌝ }
-    ensures { λ r. ⌜ r ≡ foundOf (refuse number at) ⌝ }
+fn refused(number: u32, place: u32) -> Found
+    ensures { λ r. ⌜ r ≡ foundOf (refuse number place) ⌝ }
 {
     Found {
         number: number,
-        place: at as u32,
+        place: place,
         start: 0,
         null: false,
         prefix: 0,
@@ -127,45 +158,39 @@ fn refused(number: u32, at: usize) -> Found
     }
 }
 
-// What is kept of item number k: the item itself, if it is the one asked for.
-fn keep(kept: Found, asked: usize, k: usize, entry: u64, at: usize, m: items::Measured) -> Found
-    ensures { λ r. ⌜ r ≡ keptAt kept asked k entry at m ⌝ }
+// The item of a marked entry in a good block.
+fn item_of(marked: u64, data: &[u8]) -> Found
+    requires { ⌜ IsMark (now «data») marked ⌝ }
+    ensures { λ r. ⌜ FoundBy (now («data» .entry)) marked r ⌝ }
 {
-    if k == asked {
-        return Found {
-            number: 0,
-            place: 0,
-            start: at,
-            null: m.null,
-            prefix: m.prefix,
-            value: m.value,
-            entry: entry,
-        };
+    let start = (marked / POSITION) as usize;
+    let nullable = 128 <= marked / CODE % 256;
+    let layout = (marked / LAYOUT % 256) as u8;
+    let f = (marked % ID) as usize;
+    let parts = items::good_parts(&data[start..], nullable, layout, f);
+    Found {
+        number: 0,
+        place: 0,
+        start: start,
+        null: parts.null,
+        prefix: parts.prefix,
+        value: parts.value,
+        entry: marked % POSITION,
     }
-    kept
 }
 
-// One pass over the whole plan and the data, for the item of one number.
-pub fn find(plan: &[u64], data: &[u8], item: u32) -> Found
-    requires { ⌜ length (now «data») ≤ 32768 ⌝ }
+// The item of one number, once the walk over the whole plan and the data has found the block good.
+pub fn find(plan: &mut [u64], data: &[u8], item: u32) -> Found
+    requires { ⌜ IsPlan (now plan) × (length (now «data») ≤ 32768) ⌝ }
     ensures { λ r. ⌜ ((fs : List Field) → Planned (now (plan .entry)) fs → r ≡ foundOf (itemOf fs (now («data» .entry)) item)) ⌝ }
 {
-    let asked = item as usize;
-    let mut kept = refused(17, 0);
-    let mut start = 0;
-    let mut k = 0;
-    while k < plan.len() {
-        let entry = plan[k];
-        let m = item_at(entry, data, start);
-        if m.number != 0 {
-            return refused(m.number as u32, start);
-        }
-        kept = keep(kept, asked, k, entry, start, m);
-        start += m.prefix + m.value + m.padding;
-        k += 1;
+    let stop = mark(plan, data);
+    if stop.number != 0 {
+        return refused(stop.number, stop.place);
     }
-    if start < data.len() {
-        return refused(16, start);
+    let k = item as usize;
+    if plan.len() <= k {
+        return refused(17, 0);
     }
-    kept
+    item_of(plan[k], data)
 }

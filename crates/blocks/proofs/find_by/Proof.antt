@@ -1,5 +1,5 @@
 use Rattle.descriptors.proofs.Callers.{ready-known, ready-room}
-use Rattle.blocks.proofs.Plans.{found-way}
+use Rattle.blocks.proofs.Plans.{is-plan, found-way}
 use borrow.Author.Needs.{needs}
 use Rattle.blocks.proofs.find_by.Statement.{statement}
 use Rattle.blocks.proofs.find_by.Tie as tie
@@ -8,13 +8,13 @@ write-requires : tie.Need-write-requires
 write-requires c κs = search (needs, ready-known, ready-room)
 
 find-requires : tie.Need-find-requires
-find-requires c κs = search needs
+find-requires c κs = search (needs, is-plan)
 
 same-length : tie.Need-same-length
 same-length c = search needs
 
 returns : tie.Need-returns
-returns c = search (found-way, c .find .ensures)
+returns c = search (found-way, c .before .before .find .ensures)
 
 pub find-by-spec : {M : Type 1} → statement M
 find-by-spec = tie.close (tie.spec write-requires find-requires same-length returns)

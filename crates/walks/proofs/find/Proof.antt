@@ -1,93 +1,59 @@
--- `walks::find` meets its contract. That the plan's length fits stands in the invariant: elsewhere it is known too far back for `search`.
+-- `walks::find` meets its contract.
 -- Assumes nothing.
 use borrow.Author.Needs.{needs}
-use Prim.Native.Nat.{_-_, _^_, _<_, _≤_}
-use lib.ListN.{length}
-use Rattle.walks.proofs.Seeking.{Seeking, seek-start, seek-more, seek-stop, seek-surplus, seek-done}
+use Rattle.walks.proofs.Seeking.{find-stop, find-none, find-mark, find-item}
 use Rattle.walks.proofs.find.Statement.{statement}
 use Rattle.walks.proofs.find.Tie as tie
 
-abbrev Inv-loop : tie.InvT-loop
-Inv-loop plan «data» item asked kept₀ start₀ k₀ kept start k = (k ≤ length plan) × ((start ≤ length «data») × ((length plan < 2 ^ 64) × Seeking plan «data» item kept start k))
+mark-requires : tie.Need-mark-requires
+mark-requires c κs = search needs
 
-abbrev μ-loop : tie.MeasureT-loop
-μ-loop plan «data» item asked kept₀ start₀ k₀ kept start k = length plan - k
-
-refused-requires : tie.Need-refused-requires Inv-loop μ-loop
+refused-requires : tie.Need-refused-requires
 refused-requires c κs = search needs
 
-loop-holds : tie.Need-loop-holds Inv-loop μ-loop
-loop-holds c = search (needs, seek-start)
+same-length : tie.Need-same-length
+same-length c = search needs
 
-mul-entry : tie.Need-mul-entry Inv-loop μ-loop
-mul-entry c = search needs
+returns : tie.Need-returns
+returns c fs f = find-stop _ _ _ _ _ (c .before .before .before .before .before .mark .ensures) fs f _ (c .before .if1 .taken) (c .refused .ensures)
 
-shared-slice-read-entry : tie.Need-shared-slice-read-entry Inv-loop μ-loop
-shared-slice-read-entry c = search needs
-
-item-at-requires : tie.Need-item-at-requires Inv-loop μ-loop
-item-at-requires c κs = search needs
-
-cast-refused : tie.Need-cast-refused Inv-loop μ-loop
-cast-refused c = search needs
-
-refused-requires-2 : tie.Need-refused-requires-2 Inv-loop μ-loop
+refused-requires-2 : tie.Need-refused-requires-2
 refused-requires-2 c κs = search needs
 
-returns : tie.Need-returns Inv-loop μ-loop
-returns c fs f = search seek-stop
+same-length-2 : tie.Need-same-length-2
+same-length-2 c = search needs
 
-keep-requires : tie.Need-keep-requires Inv-loop μ-loop
-keep-requires c κs = search needs
+returns-2 : tie.Need-returns-2
+returns-2 c fs f = search (find-none, c .before .before .before .before .before .before .mark .ensures)
 
-add-start : tie.Need-add-start Inv-loop μ-loop
-add-start c = search needs
+mul-item-of : tie.Need-mul-item-of
+mul-item-of c = search needs
 
-add-start-2 : tie.Need-add-start-2 Inv-loop μ-loop
-add-start-2 c = search needs
+slice-read-item-of : tie.Need-slice-read-item-of
+slice-read-item-of c = search needs
 
-add-start-3 : tie.Need-add-start-3 Inv-loop μ-loop
-add-start-3 c = search needs
+item-of-requires : tie.Need-item-of-requires
+item-of-requires c κs = search (find-mark, c .before .before .before .before .before .before .mark .ensures)
 
-add-k : tie.Need-add-k Inv-loop μ-loop
-add-k c = search needs
+same-length-3 : tie.Need-same-length-3
+same-length-3 c = search needs
 
-loop-less : tie.Need-loop-less Inv-loop μ-loop
-loop-less c = search needs
-
-loop-again : tie.Need-loop-again Inv-loop μ-loop
-loop-again c = (search needs, (search needs, (search needs, search seek-more)))
-
-refused-requires-3 : tie.Need-refused-requires-3 Inv-loop μ-loop
-refused-requires-3 c κs = search needs
-
-returns-2 : tie.Need-returns-2 Inv-loop μ-loop
-returns-2 c fs f = search seek-surplus
-
-returns-3 : tie.Need-returns-3 Inv-loop μ-loop
-returns-3 c fs f = search seek-done
+returns-3 : tie.Need-returns-3
+returns-3 c fs f = search (find-item, c .before .before .before .before .before .before .before .mark .ensures)
 
 pub find-spec : {M : Type 1} → statement M
 find-spec =
     tie.close
     (tie.spec
-    Inv-loop
-    μ-loop
+    mark-requires
     refused-requires
-    loop-holds
-    mul-entry
-    shared-slice-read-entry
-    item-at-requires
-    cast-refused
-    refused-requires-2
+    same-length
     returns
-    keep-requires
-    add-start
-    add-start-2
-    add-start-3
-    add-k
-    loop-less
-    loop-again
-    refused-requires-3
+    refused-requires-2
+    same-length-2
     returns-2
+    mul-item-of
+    slice-read-item-of
+    item-of-requires
+    same-length-3
     returns-3)

@@ -1,9 +1,10 @@
 -- `walks::mark` meets its contract.
 -- Assumes nothing.
+use borrow.Author.Needs.{needs, set-long}
 use Prim.Native.Nat.{_≤_, _-_}
 use mathlib.Core.Path.{_≡_}
-use borrow.Author.Needs.{needs, set-long}
 use lib.ListN.{length}
+use Rattle.walks.proofs.Steps.{step-inside}
 use Rattle.walks.proofs.Marking.{Marking, mark-start, mark-more, mark-stop, mark-surplus, mark-done}
 use Rattle.walks.proofs.mark.Statement.{statement}
 use Rattle.walks.proofs.mark.Tie as tie
@@ -23,8 +24,8 @@ mul-entry c = search needs
 slice-read-entry : tie.Need-slice-read-entry Inv-loop μ-loop
 slice-read-entry c = search needs
 
-item-at-requires : tie.Need-item-at-requires Inv-loop μ-loop
-item-at-requires c κs = search needs
+step-at-requires : tie.Need-step-at-requires Inv-loop μ-loop
+step-at-requires c κs = search needs
 
 cast-stopped : tie.Need-cast-stopped Inv-loop μ-loop
 cast-stopped c = search needs
@@ -53,12 +54,6 @@ slice-write-plan c = search needs
 add-at : tie.Need-add-at Inv-loop μ-loop
 add-at c = search needs
 
-add-at-2 : tie.Need-add-at-2 Inv-loop μ-loop
-add-at-2 c = search needs
-
-add-at-3 : tie.Need-add-at-3 Inv-loop μ-loop
-add-at-3 c = search needs
-
 add-k : tie.Need-add-k Inv-loop μ-loop
 add-k c = search needs
 
@@ -66,7 +61,7 @@ loop-less : tie.Need-loop-less Inv-loop μ-loop
 loop-less c = search needs
 
 loop-again : tie.Need-loop-again Inv-loop μ-loop
-loop-again c = (search needs, (search needs, (search (needs, set-long), search mark-more)))
+loop-again c = (search needs, (search (needs, step-inside), (search (needs, set-long), search mark-more)))
 
 stopped-requires-2 : tie.Need-stopped-requires-2 Inv-loop μ-loop
 stopped-requires-2 c κs = search needs
@@ -95,7 +90,7 @@ mark-spec =
     loop-holds
     mul-entry
     slice-read-entry
-    item-at-requires
+    step-at-requires
     cast-stopped
     stopped-requires
     same-length
@@ -105,8 +100,6 @@ mark-spec =
     mul-plan-2
     slice-write-plan
     add-at
-    add-at-2
-    add-at-3
     add-k
     loop-less
     loop-again
