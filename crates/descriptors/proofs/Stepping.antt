@@ -9,9 +9,11 @@ use mathlib.Core.List.{List}
 use lib.ListN.{length, getD}
 use borrow.Author.Tests.{eq-eqb, ne-eqb}
 use Rattle.fdoca.specs.Basics.{product, Result, refuse, ok}
-use Rattle.fdoca.specs.Triplet.{idOf, extentsOf}
+use Rattle.fdoca.specs.Triplet.{idOf, codeOf, extentsOf}
 use Rattle.fdoca.specs.Check.{goodLengthSDA, goodSDA}
+use Rattle.field_types.specs.Parameters.{layoutNumber}
 use Rattle.triplets.specs.declared.Sum.{Sum}
+use Rattle.triplets.specs.declared.Judged.{Judged}
 use Rattle.triplets.specs.Judged.{outcome, Agrees, JudgedSDA, JudgedRLO, JudgedCPT, GoodRow}
 use Rattle.triplets.specs.Kept.{PutSDA}
 use Rattle.triplets.proofs.Sda.{at-least-12}
@@ -29,7 +31,7 @@ accepting n p a x e q = e ∙ simp (eq-eqb n 0 q)
 never : {A : Type 0} {n m : ℕ} → n ≡ m → m ≢ 0 → n ≡ 0 → A
 never e h z = absurd (h (sym e ∙ z))
 
-module _ (t s : List ℕ) (j : Sum) (y : JudgedSDA t s j) where
+module _ (t s : List ℕ) (j : Judged) (y : JudgedSDA t s j) where
   pub sda-refused : (z e : List ℕ) (p : ℕ) (r : Step) → (j .number ≡ 0 → ⊥) → Bare (j .number) r → SteppedSDA t p s z e s z e r
   sda-refused z e p r h b =
       record {
@@ -51,7 +53,10 @@ module _ (t s : List ℕ) (j : Sum) (y : JudgedSDA t s j) where
     pub judged-count : j .count ≡ product (extentsOf t)
     judged-count = y .count h
 
-    pub judged-small : j .count ≤ 4096
+    pub judged-layout : j .layout ≡ layoutNumber (codeOf t)
+    judged-layout = y .layout h
+
+    judged-small : j .count ≤ 4096
     judged-small = y .small
 
     pub judged-id : 2 < length t

@@ -117,7 +117,7 @@ fn sda_step(
     if judged.number != 0 {
         return bare(judged.number);
     }
-    triplets::put_sda(t, p, judged.count, starts, sizes, entries);
+    triplets::put_sda(t, p, judged, starts, sizes, entries);
     Step {
         number: 0,
         row: false,

@@ -1,9 +1,9 @@
--- The parameters that a type allows, by the numbers of its rule, and the ways through `parameters_ok`.
+-- The parameters that a type allows, by the numbers of its rule, and the ways through `layout_of`.
 -- Assumes nothing.
 use mathlib.Core.Path.{_≡_, refl, sym, _∙_, ap}
 use Prim.Native.Nat.{ℕ, _+_, _<_, _≤_, zero-le}
 use native.Mathlib.Omega.{arith}
-use mathlib.Core.Bool.{Bool, true, false, _&&_}
+use mathlib.Core.Bool.{Bool, true, false, _&&_, and-false}
 use mathlib.Core.List.{List, [], _∷_}
 use mathlib.Core.Option.{Option, none, some}
 use lib.Dec.{leb, ltb, eqb, lit≤}
@@ -11,14 +11,14 @@ use lib.ListN.{length, getD, drop, length-drop}
 use lib.Seq.{take-all}
 use borrow.Author.Tests.{le-ltb, le-leb, lt-leb, eq-eqb, ne-eqb}
 use Rattle.fdoca.specs.Basics.{if_then_else_, big}
-use Rattle.fdoca.specs.FieldType.{FieldType, fixedBytes, variableBytes, terminatedBytes, shortBytes, integer, reversedInteger, hexFloat, reversedFloat, binaryFloat, typeOf, Lengths, upTo, oneOf, allows, ruleOf}
+use Rattle.fdoca.specs.FieldType.{FieldType, fixedBytes, variableBytes, terminatedBytes, shortBytes, integer, reversedInteger, hexFloat, reversedFloat, binaryFloat, typeOf, Layout, fixed, counted, terminated, signedTwo, unsignedOne, Lengths, upTo, oneOf, allows, ruleOf}
 use Rattle.fdoca.specs.FieldType as definition
 use Rattle.fdoca.specs.Triplet.{biasOf, modeOf, lengthOf}
 use Rattle.fdoca.specs.Check.{most, goodParameters, goodType}
 use Rattle.fdoca.proofs.Tests.{by-lt}
 use Rattle.field_types.specs.declared.Rule.{Rule}
-use Rattle.field_types.specs.Rows.{rowOf, topOf, sizesOf, noSize, sizeAt, inNumbers, ruleFor, encoded, ruleAt}
-use Rattle.field_types.specs.Parameters.{unusedZero, ruleAllows, goodEight}
+use Rattle.field_types.specs.Rows.{rowOf, prefixOf, topOf, sizesOf, noSize, sizeAt, inNumbers, ruleFor, encoded, ruleAt}
+use Rattle.field_types.specs.Parameters.{unusedZero, ruleAllows, goodEight, layoutNumber, layoutIf}
 use Rattle.field_types.proofs.Rows.{rule-in-row}
 use Rattle.field_types.proofs.Pairs.{two-at}
 
@@ -84,13 +84,9 @@ unused-first true true false false e f = refl
 unused-first true false c d e f = refl
 unused-first false b c d e f = refl
 
-nothing : (a : Bool) → a && false ≡ false
-nothing true = refl
-nothing false = refl
-
 good-type : (o : Option FieldType) (ps : List ℕ) → goodType o ps ≡ goodParameters (ruleFor o) ps
 unfolding goodParameters ruleFor
-good-type none ps = simp nothing
+good-type none ps = simp and-false
 good-type (some T) ps = refl
 
 by-parts : (o : Option FieldType) (ps : List ℕ) → goodType o ps ≡ unusedZero ps && allowed (ruleFor o) (biasOf ps) (modeOf ps) (lengthOf ps)
@@ -114,19 +110,53 @@ pub good-eight : (code : ℕ) (ps : List ℕ) → length ps ≡ 8 → goodEight 
 unfolding goodEight
 good-eight code ps h = simp (eq-eqb _ _ h)
 
--- the ways through `parameters_ok`
+-- for callers: a layout's number tells whether all is good
+number-small : (l : Layout) → prefixOf l < 255
+unfolding prefixOf
+number-small fixed = lit≤ tt
+number-small (counted unsignedOne) = lit≤ tt
+number-small (counted signedTwo) = lit≤ tt
+number-small terminated = lit≤ tt
+
+module _ (n code : ℕ) where
+  pub layout-none : (good : Bool) → n ≡ layoutIf good code → n ≡ 255 → good ≡ false
+  unfolding layoutIf layoutNumber
+  layout-none true e h = absurd (let z : ⊥ = omega (arith, number-small (ruleFor (typeOf code) .layout)) in z)
+  layout-none false e h = refl
+
+  pub layout-some : (good : Bool) → n ≡ layoutIf good code → (n ≡ 255 → ⊥) → good ≡ true
+  unfolding layoutIf
+  layout-some true e h = refl
+  layout-some false e h = absurd (h e)
+
+  pub layout-is : (good : Bool) → n ≡ layoutIf good code → good ≡ true → n ≡ layoutNumber code
+  unfolding layoutIf
+  layout-is good e h = rw h at e
+
+pub no-layout : (good : Bool) (code : ℕ) → good ≡ false → 255 ≡ layoutIf good code
+unfolding layoutIf
+no-layout good code h = rw h
+
+-- the ways through `layout_of`
 module _ (code : ℕ) (ps : List ℕ) where
-  pub not-eight : (length ps ≡ 8 → ⊥) → false ≡ goodEight code ps
+  pub not-eight : (length ps ≡ 8 → ⊥) → goodEight code ps ≡ false
   unfolding goodEight
   not-eight h = simp (ne-eqb _ _ h)
 
-  pub unused-set : (z : Bool) → z ≡ unusedZero ps → z ≡ false → false ≡ goodEight code ps
+  pub unused-set : (z : Bool) → z ≡ unusedZero ps → z ≡ false → goodEight code ps ≡ false
   unfolding goodEight
-  unused-set z e f = simp (by-parts, ← e, f, nothing)
+  unused-set z e f = simp (by-parts, ← e, f, and-false)
 
-  pub by-rule : (z : Bool) (row : ℕ) (r : Rule) (bias F : ℕ) (b : Bool) → length ps ≡ 8 → z ≡ unusedZero ps → z ≡ true → row ≡ rowOf (typeOf code) → r ≡ ruleAt row → bias ≡ big (getD ps 2 0 ∷ getD ps 3 0 ∷ []) → F ≡ big (getD ps 6 0 ∷ getD ps 7 0 ∷ []) → F < noSize → b ≡ ruleAllows r bias (getD ps 5 0) F → b ≡ goodEight code ps
-  unfolding encoded
-  by-rule z row r bias F b h e t w k i l two-bytes d =
-      let rule : r ≡ inNumbers (ruleFor (typeOf code)) = k ∙ ap ruleAt w ∙ rule-in-row (typeOf code) in
-      let good : ruleAllows r bias (getD ps 5 0) F ≡ allowed (ruleFor (typeOf code)) bias (getD ps 5 0) F = rw rule (numbers-allow (ruleFor (typeOf code)) bias (getD ps 5 0) F (few (typeOf code)) two-bytes) in
-      d ∙ good ∙ simp (good-eight code ps h, by-parts, ← e, t, bias-read ps h, length-read ps h, i, l)
+  module _ (row : ℕ) (r : Rule) (w : row ≡ rowOf (typeOf code)) (k : r ≡ ruleAt row) where
+    rule-is : r ≡ encoded (typeOf code)
+    rule-is = k ∙ ap ruleAt w ∙ rule-in-row (typeOf code)
+
+    pub by-rule : (z : Bool) (bias F : ℕ) (b answer : Bool) → length ps ≡ 8 → z ≡ unusedZero ps → z ≡ true → bias ≡ big (getD ps 2 0 ∷ getD ps 3 0 ∷ []) → F ≡ big (getD ps 6 0 ∷ getD ps 7 0 ∷ []) → F < noSize → b ≡ ruleAllows r bias (getD ps 5 0) F → b ≡ answer → goodEight code ps ≡ answer
+    unfolding encoded
+    by-rule z bias F b answer h e t i l two-bytes d a =
+        let good : ruleAllows r bias (getD ps 5 0) F ≡ allowed (ruleFor (typeOf code)) bias (getD ps 5 0) F = rw rule-is (numbers-allow (ruleFor (typeOf code)) bias (getD ps 5 0) F (few (typeOf code)) two-bytes) in
+        sym (d ∙ good ∙ simp (good-eight code ps h, by-parts, ← e, t, bias-read ps h, length-read ps h, i, l)) ∙ a
+
+    pub by-layout : (good : Bool) → good ≡ true → r .prefix ≡ layoutIf good code
+    unfolding encoded inNumbers layoutIf layoutNumber
+    by-layout good h = rw (h, rule-is)

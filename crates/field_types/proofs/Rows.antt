@@ -1,12 +1,12 @@
--- Laws of the tables: the nullable forms, a type's row and its rule, the layout behind a rule's number, and how a table's rule is proved.
+-- Laws of the tables: the nullable forms, a type's row and its rule, and the layout behind a rule's number.
 -- Assumes nothing.
-use mathlib.Core.Path.{_≡_, refl, _∙_, ap}
+use mathlib.Core.Path.{_≡_, refl, sym, _∙_, ap}
 use Prim.Native.Nat.{ℕ, zero, suc, _+_, _-_, _<_, _≤_}
 use native.Mathlib.Nat.{le-of-suc-le-suc}
 use native.Mathlib.Omega.{arith}
 use mathlib.Core.List.{List, [], _∷_}
 use mathlib.Core.Option.{Option, none, some}
-use lib.ListN.{length, getD, getElem?}
+use lib.ListN.{length, getElem?}
 use borrow.Author.Tests.{le-leb, lt-leb}
 use Rattle.fdoca.specs.FieldType.{FieldType, fixedBytes, variableBytes, terminatedBytes, shortBytes, integer, reversedInteger, hexFloat, reversedFloat, binaryFloat, types, typeOf, Layout, fixed, counted, terminated, signedTwo, unsignedOne, ruleOf}
 use Rattle.field_types.specs.declared.Rule.{Rule}
@@ -53,28 +53,26 @@ pub layout-of-rule : (T : FieldType) → layoutOf (encoded (some T) .prefix) ≡
 unfolding encoded inNumbers ruleFor
 layout-of-rule T = layout-back (ruleOf T .layout)
 
--- rows past the table have no type
+-- a row that is k has the rule of row k
+pub in-row : (r : Rule) (row k : ℕ) → row ≡ k → r ≡ ruleAt k → r ≡ ruleAt row
+in-row r row k e h = h ∙ sym (ap ruleAt e)
+
+-- a row that is none of 1 to k
+abbrev pub NoneTo : (row k : ℕ) → Type 0
+NoneTo row zero = Unit {0}
+NoneTo row (suc k) = NoneTo row k × (row ≡ suc k → ⊥)
+
+behind : (row k : ℕ) → NoneTo row k → 0 < row → k < row
+behind row zero n h = h
+behind row (suc k) n h = let l : k < row = behind row k (n .0) h in omega (arith, n .1)
+
+-- rows outside the table have no type
 past-end : (l : List (ℕ × FieldType)) (k : ℕ) → length l ≤ k → getElem? l k ≡ none
 past-end [] k h = refl
 past-end (x ∷ l) zero h = absurd (let z : ⊥ = omega arith in z)
 past-end (x ∷ l) (suc k) h = past-end l k (le-of-suc-le-suc h)
 
-pub past-table : (row : ℕ) → 10 ≤ row → encoded none ≡ ruleAt row
+pub outside-table : (row : ℕ) → NoneTo row 9 → encoded none ≡ ruleAt row
 unfolding ruleAt typeAt
-past-table zero h = absurd (let z : ⊥ = omega arith in z)
-past-table (suc k) h = rw (past-end types k (omega arith))
-
--- a table of rules, at every row, from one equation that is computed over the whole table
-abbrev pub rules : (i n : ℕ) → List Rule
-rules i zero = []
-rules i (suc n) = ruleAt i ∷ rules (suc i) n
-
-at-place : (i n k : ℕ) (d : Rule) → k < n → getD (rules i n) k d ≡ ruleAt (i + k)
-at-place i zero k d h = absurd (let z : ⊥ = omega arith in z)
-at-place i (suc n) zero d h = let e : i ≡ i + 0 = omega arith in ap ruleAt e
-at-place i (suc n) (suc k) d h = let e : suc i + k ≡ i + suc k = omega arith in at-place (suc i) n k d (omega arith) ∙ ap ruleAt e
-
-pub in-table : (xs : List Rule) (d : Rule) (row : ℕ) → row < length xs → xs ≡ rules 0 (length xs) → getD xs row d ≡ ruleAt row
-in-table xs d row h t =
-    let e : 0 + row ≡ row = omega arith in
-    ap (λ l. getD l row d) t ∙ at-place 0 (length xs) row d h ∙ ap ruleAt e
+outside-table zero n = refl
+outside-table (suc k) n = let l : 9 < suc k = behind (suc k) 9 n (omega arith) in rw (past-end types k (omega arith))

@@ -1,4 +1,4 @@
--- The test of an SDA's eight type parameter bytes (document 01, "Field types"), and its parts.
+-- The test of an SDA's eight type parameter bytes (document 01, "Field types"), its parts, and the layout's number of an SDA that is good.
 use Prim.Native.Nat.{ℕ}
 use mathlib.Core.Bool.{Bool, true, false, _&&_}
 use mathlib.Core.List.{List}
@@ -8,6 +8,7 @@ use Rattle.fdoca.specs.Basics.{if_then_else_}
 use Rattle.fdoca.specs.FieldType.{typeOf}
 use Rattle.fdoca.specs.Check.{goodType}
 use Rattle.field_types.specs.declared.Rule.{Rule}
+use Rattle.field_types.specs.Rows.{prefixOf, ruleFor}
 
 -- The bytes that no type has a parameter in.
 unfoldable pub unusedZero : List ℕ → Bool
@@ -27,3 +28,11 @@ ruleAllows r bias mode F =
 -- The parameters are eight bytes, and good for the type that the code stands for.
 unfoldable pub goodEight : (code : ℕ) → List ℕ → Bool
 goodEight code ps = eqb (length ps) 8 && goodType (typeOf code) ps
+
+-- The layout's number of the rule by which a code is judged.
+unfoldable pub layoutNumber : (code : ℕ) → ℕ
+layoutNumber code = prefixOf (ruleFor (typeOf code) .layout)
+
+-- The layout's number where all is good, else a number that no layout has.
+unfoldable pub layoutIf : Bool → (code : ℕ) → ℕ
+layoutIf good code = if good then layoutNumber code else 255

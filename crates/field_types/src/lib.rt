@@ -6,23 +6,26 @@ ghost use lib.ListN.{length};
 ghost use Rattle.fdoca.specs.Basics.{big};
 ghost use Rattle.fdoca.specs.FieldType.{typeOf, nullable};
 ghost use Rattle.field_types.specs.Rows.{rowOf, ruleAt};
-ghost use Rattle.field_types.specs.Parameters.{unusedZero, ruleAllows, goodEight};
+ghost use Rattle.field_types.specs.Parameters.{unusedZero, ruleAllows, goodEight, layoutIf};
 
 // A number that no field length is, since two bytes do not hold it.
 const NO_SIZE: usize = 65536;
 
+// A number that no layout has.
+pub const NO_LAYOUT: u8 = 255;
+
 // What a field type allows as its type parameters, and how long its values are.
-pub struct Rule {
+struct Rule {
     // The field length is below `top`, or is one of three sizes.
-    pub top: usize,
-    pub size1: usize,
-    pub size2: usize,
-    pub size3: usize,
+    top: usize,
+    size1: usize,
+    size2: usize,
+    size3: usize,
     // The largest mode, and the largest bias indicator.
-    pub modes: u8,
-    pub biases: usize,
+    modes: u8,
+    biases: usize,
     // A value has the field length (0), follows a length field of one or two bytes (1, 2), or ends before a zero byte (3).
-    pub prefix: u8,
+    prefix: u8,
 }
 
 // The row of each type code, 0 for none.
@@ -396,14 +399,22 @@ pub fn row_of(code: u8) -> u8
     ROWS[code as usize]
 }
 
-// The rule in a row; past the table, that of row 0.
-pub fn rule_at(row: u8) -> Rule
+// The rule in a row; past the table, that of row 0. Each index is a constant, so that the table is never copied to be read.
+fn rule_at(row: u8) -> Rule
     ensures { λ r. ⌜ r ≡ ruleAt row ⌝ }
 {
-    if row < 10 {
-        return RULES[row as usize];
+    match row {
+        1 => RULES[1],
+        2 => RULES[2],
+        3 => RULES[3],
+        4 => RULES[4],
+        5 => RULES[5],
+        6 => RULES[6],
+        7 => RULES[7],
+        8 => RULES[8],
+        9 => RULES[9],
+        _ => RULES[0],
     }
-    RULES[0]
 }
 
 // Whether a type code is a nullable form.
@@ -472,16 +483,19 @@ fn rule_allows(rule: Rule, bias: usize, mode: u8, f: usize) -> bool
     false
 }
 
-// Whether an SDA's type parameters are eight bytes that its field type allows.
-pub fn parameters_ok(code: u8, ps: &[u8]) -> bool
-    ensures { λ r. ⌜ r ≡ goodEight code (now (ps .entry)) ⌝ }
+// The layout's number of an SDA whose type parameters are eight bytes that its field type allows, else NO_LAYOUT.
+pub fn layout_of(code: u8, ps: &[u8]) -> u8
+    ensures { λ r. ⌜ r ≡ layoutIf (goodEight code (now (ps .entry))) code ⌝ }
 {
     if ps.len() != 8 {
-        return false;
+        return NO_LAYOUT;
     }
-    if unused_zero(ps) {
-        let rule = rule_at(row_of(code));
-        return rule_allows(rule, pair(ps[2], ps[3]), ps[5], pair(ps[6], ps[7]));
+    if !unused_zero(ps) {
+        return NO_LAYOUT;
     }
-    false
+    let rule = rule_at(row_of(code));
+    if rule_allows(rule, pair(ps[2], ps[3]), ps[5], pair(ps[6], ps[7])) {
+        return rule.prefix;
+    }
+    NO_LAYOUT
 }

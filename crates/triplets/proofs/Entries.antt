@@ -21,9 +21,8 @@ use Rattle.fdoca.specs.Check.{goodLengthSDA, goodType, goodSDA}
 use Rattle.fdoca.specs.Unfolding.{fieldOf}
 use Rattle.fdoca.proofs.Tests.{and-left, and-right}
 use Rattle.fdoca.proofs.Account.{big-two}
-use Rattle.field_types.specs.declared.Rule.{Rule}
-use Rattle.field_types.specs.Rows.{rowOf, prefixOf, inNumbers, ruleFor, encoded, ruleAt}
-use Rattle.field_types.proofs.Rows.{rule-in-row}
+use Rattle.field_types.specs.Rows.{prefixOf, ruleFor}
+use Rattle.field_types.specs.Parameters.{layoutNumber}
 use Rattle.field_types.proofs.Pairs.{two-at}
 use Rattle.plans.specs.Plan.{entryOf, Proper}
 use Rattle.plans.specs.Tied.{lowerOf}
@@ -108,15 +107,14 @@ module _ (t : List ℕ) (h : 12 ≤ length t) where
       ap big (e ∙ f) ∙ big-two (getD t 10 0) (getD t 11 0)
 
   -- the plan's entry, from its parts
-  pub entry-way : (row : ℕ) (rule : Rule) (layout m c i a b : ℕ) → row ≡ rowOf (typeOf (getD t 3 0)) → rule ≡ ruleAt row → layout ≡ rule .prefix
+  pub entry-way : (layout l m c i a b : ℕ) → layout ≡ layoutNumber (codeOf t) → l ≡ layout
       → m ≡ getD t 9 0 → m < 256 → c ≡ getD t 3 0 → c < 256 → i ≡ getD t 2 0 → i < 256 → a ≡ getD t 10 0 → a < 256 → b ≡ getD t 11 0 → b < 256
-      → EntryOf t (a * 256 + b + 65536 * (i + 256 * (c + 256 * (m + 256 * layout))))
-  unfolding entryOf encoded inNumbers ruleFor
-  entry-way row rule layout m c i a b er eu el em mf ec cf ei ifs ea af eb bf =
+      → EntryOf t (a * 256 + b + 65536 * (i + 256 * (c + 256 * (m + 256 * l))))
+  unfolding entryOf layoutNumber ruleFor
+  entry-way layout l m c i a b en el em mf ec cf ei ifs ea af eb bf =
       record {
         same = λ T q.
-            let w : rule ≡ encoded (some T) = eu ∙ ap ruleAt (er ∙ ap rowOf q) ∙ rule-in-row (some T) in
-            let k : layout ≡ prefixOf (ruleOf T .layout) = el ∙ ap (λ (y : Rule). y .prefix) w in
+            let k : l ≡ prefixOf (ruleOf T .layout) = el ∙ en ∙ ap (λ o. prefixOf (ruleFor o .layout)) q in
             rw (length-bytes, mode-byte, ← em, ← ec, ← ei, ← ea, ← eb, ← k);
         proper = λ T z.
             record {

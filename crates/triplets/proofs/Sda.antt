@@ -6,7 +6,7 @@ use Prim.Native.Nat.{ℕ, zero, suc, _+_, _-_, _*_, _≤_, _<_, _^_}
 use native.Mathlib.Omega.{arith}
 use native.Mathlib.Nat.{zero-mul, mul-zero, mul-one, mul-pos}
 use native.Mathlib.Numerals.{add-one}
-use mathlib.Core.Bool.{Bool, true, false, not, _&&_}
+use mathlib.Core.Bool.{Bool, true, false, not, _&&_, and-true, and-false}
 use mathlib.Core.List.{List, [], _∷_}
 use mathlib.Core.Option.{Option, none, some}
 use lib.Dec.{ltb, leb, eqb}
@@ -15,13 +15,13 @@ use lib.Seq.{drop-cons, length-take-le}
 use borrow.Author.Tests.{lt-ltb, le-ltb, eq-eqb, ne-eqb, eqb-true, eqb-false, ltb-true, ltb-false}
 use mir.Syntax.{w64}
 use mir.Val.{Fits}
-use Rattle.fdoca.specs.Basics.{if_then_else_, elem, big, product}
+use Rattle.fdoca.specs.Basics.{if_then_else_, elem, big, product, refuse}
 use Rattle.fdoca.specs.Triplet.{pairs, extentsOf, idOf, codeOf, parametersOf}
 use Rattle.fdoca.specs.FieldType.{typeOf}
 use Rattle.fdoca.specs.Check.{Entry, isDescribed, goodLengthSDA, goodType, goodSDA, checkSDA}
-use Rattle.field_types.specs.Parameters.{goodEight}
-use Rattle.field_types.proofs.Allowed.{good-eight}
-use Rattle.triplets.specs.declared.Sum.{Sum}
+use Rattle.field_types.specs.Parameters.{goodEight, layoutIf}
+use Rattle.field_types.proofs.Allowed.{good-eight, layout-none, layout-some, layout-is}
+use Rattle.triplets.specs.declared.Judged.{Judged}
 use Rattle.triplets.specs.Judged.{extentOr1, Agrees, KeptAs, described, JudgedSDA}
 use Rattle.triplets.proofs.Outcomes.{below, refused-outcome, found-outcome, is-described, not-described}
 
@@ -114,84 +114,77 @@ no-zero (suc x ∷ xs) = let e : eqb 0 (suc x) ≡ false = ne-eqb 0 (suc x) (λ 
 parameters-length : (t : List ℕ) → 12 ≤ length t → length (parametersOf t) ≡ 8
 parameters-length t h = length-take-le 8 (drop 4 t) (omega (arith, length-drop 4 t))
 
+-- the ways through `sda_layout`
 module _ (t : List ℕ) where
-  pub bad-id : getD t 2 0 ≡ 0 → false ≡ goodSDA t
+  pub bad-id : getD t 2 0 ≡ 0 → goodSDA t ≡ false
   bad-id e = simp (eq-eqb (getD t 2 0) 0 e)
 
-  pub bad-parameters : (b : Bool) → goodLengthSDA t ≡ true → (getD t 2 0 ≡ 0 → ⊥) → b ≡ goodEight (getD t 3 0) (parametersOf t) → b ≡ false → false ≡ goodSDA t
-  bad-parameters b l i e z =
-      let g : goodType (typeOf (codeOf t)) (parametersOf t) ≡ false = sym (good-eight (getD t 3 0) (parametersOf t) (parameters-length t (at-least-12 t l))) ∙ sym e ∙ z in
-      simp (ne-eqb (getD t 2 0) 0 i, g)
+  pub bad-extents : (n : ℕ) → n ≡ product (extentsOf t) → n ≡ 0 → goodSDA t ≡ false
+  bad-extents n c z = rw (no-zero (extentsOf t), ← c, z) (and-false (not (eqb (idOf t) 0) && goodType (typeOf (codeOf t)) (parametersOf t)))
 
-  pub good-extents : (b a : Bool) (n : ℕ) → goodLengthSDA t ≡ true → (getD t 2 0 ≡ 0 → ⊥) → b ≡ goodEight (getD t 3 0) (parametersOf t) → b ≡ true
-      → n ≡ product (extentsOf t) → a ≡ ltb 0 n → a ≡ goodSDA t
-  good-extents b a n l i e z c q =
-      let g : goodType (typeOf (codeOf t)) (parametersOf t) ≡ true = sym (good-eight (getD t 3 0) (parametersOf t) (parameters-length t (at-least-12 t l))) ∙ sym e ∙ z in
-      q ∙ rw (c, ← no-zero (extentsOf t)) (simp (ne-eqb (getD t 2 0) 0 i, g))
+  pub good-rest : (n layout : ℕ) → goodLengthSDA t ≡ true → (getD t 2 0 ≡ 0 → ⊥) → n ≡ product (extentsOf t) → (n ≡ 0 → ⊥)
+      → layout ≡ layoutIf (goodEight (getD t 3 0) (parametersOf t)) (getD t 3 0) → layout ≡ layoutIf (goodSDA t) (codeOf t)
+  good-rest n layout l i c z e =
+      let g : goodEight (getD t 3 0) (parametersOf t) ≡ goodType (typeOf (codeOf t)) (parametersOf t) = good-eight (getD t 3 0) (parametersOf t) (parameters-length t (at-least-12 t l)) in
+      let p : not (elem 0 (extentsOf t)) ≡ true = no-zero (extentsOf t) ∙ rw (← c) (lt-ltb 0 n (omega (arith, z))) in
+      e ∙ ap (λ b. layoutIf b (codeOf t)) (simp (ne-eqb (getD t 2 0) 0 i, p, g, and-true))
 
 -- the ways through judging an SDA
-module _ (t s : List ℕ) (r : Sum) where
+module _ (t s : List ℕ) (r : Judged) where
+  refused-by : (n : ℕ) → n ≢ 0 → r .number ≡ n → r .count ≡ 0
+      → ((p : ℕ) (z : List ℕ) (es : List (ℕ × Entry)) → Agrees s z es → checkSDA es p t ≡ refuse n p) → JudgedSDA t s r
+  refused-by n h e c f =
+      record {
+        result = λ p z es a. f p z es a ∙ rw e (refused-outcome n p (described (idOf t) (extentsOf t) es) h);
+        count = λ q. absurd (h (sym e ∙ q));
+        layout = λ q. absurd (h (sym e ∙ q));
+        length-good = λ q. absurd (h (sym e ∙ q));
+        good = λ q. absurd (h (sym e ∙ q));
+        small = omega arith;
+      }
+
   pub sda-bad-length : (a : Bool) → r .number ≡ 5 → r .count ≡ 0 → a ≡ goodLengthSDA t → a ≡ false → JudgedSDA t s r
   unfolding checkSDA
-  sda-bad-length a e z h f =
-      record {
-        result = λ p y es k. rw (← h, f, e) (refused-outcome 5 p (described (idOf t) (extentsOf t) es) (λ q. omega arith));
-        count = λ q. absurd (let w : ⊥ = omega arith in w);
-        length-good = λ q. absurd (let w : ⊥ = omega arith in w);
-        good = λ q. absurd (let w : ⊥ = omega arith in w);
-        small = omega arith;
-      }
+  sda-bad-length a e c h f = refused-by 5 (λ q. omega arith) e c (λ p z es k. rw (← h, f))
 
-  pub sda-bad : (a b : Bool) → r .number ≡ 6 → r .count ≡ 0 → a ≡ goodLengthSDA t → a ≡ true → b ≡ goodSDA t → b ≡ false → JudgedSDA t s r
-  unfolding checkSDA
-  sda-bad a b e z h f g k =
-      record {
-        result = λ p y es w. rw (← h, f, ← g, k, e) (refused-outcome 6 p (described (idOf t) (extentsOf t) es) (λ q. omega arith));
-        count = λ q. absurd (let w : ⊥ = omega arith in w);
-        length-good = λ q. absurd (let w : ⊥ = omega arith in w);
-        good = λ q. absurd (let w : ⊥ = omega arith in w);
-        small = omega arith;
-      }
-
-  module _ (a b : Bool) (i : ℕ) (h : a ≡ goodLengthSDA t) (f : a ≡ true) (g : b ≡ goodSDA t) (k : b ≡ true) (j : i ≡ getD t 2 0) (l : i < 256) where
-    pub sda-taken : r .number ≡ 7 → r .count ≡ 0 → (getD s i 0 ≡ 65535 → ⊥) → JudgedSDA t s r
+  module _ (a : Bool) (layout : ℕ) (h : a ≡ goodLengthSDA t) (f : a ≡ true) (g : layout ≡ layoutIf (goodSDA t) (codeOf t)) where
+    pub sda-bad : r .number ≡ 6 → r .count ≡ 0 → layout ≡ 255 → JudgedSDA t s r
     unfolding checkSDA
-    sda-taken e z n =
-        record {
-          result = λ p y es w.
-              let d : isDescribed (idOf t) es ≡ true = is-described s y es (idOf t) (rw j at l) (rw j at n) w in
-              rw (← h, f, ← g, k, d, e) (refused-outcome 7 p (described (idOf t) (extentsOf t) es) (λ q. omega arith));
-          count = λ q. absurd (let w : ⊥ = omega arith in w);
-          length-good = λ q. absurd (let w : ⊥ = omega arith in w);
-          good = λ q. absurd (let w : ⊥ = omega arith in w);
-          small = omega arith;
-        }
+    sda-bad e c n = refused-by 6 (λ q. omega arith) e c (λ p z es k. rw (← h, f, layout-none layout (codeOf t) (goodSDA t) g n))
 
-    pub sda-many : (n most : ℕ) → r .number ≡ 10 → r .count ≡ 0 → getD s i 0 ≡ 65535 → n ≡ product (extentsOf t) → 4096 ≤ most → most < n → JudgedSDA t s r
-    unfolding checkSDA
-    sda-many n most e z u c o m =
-        record {
-          result = λ p y es w.
-              let d : isDescribed (idOf t) es ≡ false = not-described s y es (idOf t) (rw j at l) (rw j at u) w in
-              rw (← h, f, ← g, k, d, ← c, lt-ltb 4096 n (omega arith), e) (refused-outcome 10 p (described (idOf t) (extentsOf t) es) (λ q. omega arith));
-          count = λ q. absurd (let w : ⊥ = omega arith in w);
-          length-good = λ q. absurd (let w : ⊥ = omega arith in w);
-          good = λ q. absurd (let w : ⊥ = omega arith in w);
-          small = omega arith;
-        }
+    module _ (i : ℕ) (n : layout ≡ 255 → ⊥) (j : i ≡ getD t 2 0) (l : i < 256) where
+      good : goodSDA t ≡ true
+      good = layout-some layout (codeOf t) (goodSDA t) g n
 
-    pub sda-fine : (n : ℕ) → r ≡ record { number = 0; count = n } → getD s i 0 ≡ 65535 → n ≡ product (extentsOf t) → n ≤ 4096 → JudgedSDA t s r
-    unfolding checkSDA
-    sda-fine n e u c m =
-        record {
-          result = λ p y es w.
-              let d : isDescribed (idOf t) es ≡ false = not-described s y es (idOf t) (rw j at l) (rw j at u) w in
-              rw (← h, f, ← g, k, d, ← c, le-ltb 4096 n m, e) (found-outcome 0 p (described (idOf t) (extentsOf t) es) refl);
-          count = λ q. rw e c;
-          length-good = λ q. sym h ∙ f;
-          good = λ q. sym g ∙ k;
-          small = rw e m;
-        }
+      pub sda-taken : r .number ≡ 7 → r .count ≡ 0 → (getD s i 0 ≡ 65535 → ⊥) → JudgedSDA t s r
+      unfolding checkSDA
+      sda-taken e c u =
+          refused-by 7 (λ q. omega arith) e c
+          (λ p z es w.
+          let d : isDescribed (idOf t) es ≡ true = is-described s z es (idOf t) (rw j at l) (rw j at u) w in
+          rw (← h, f, good, d))
+
+      module _ (count : ℕ) (u : getD s i 0 ≡ 65535) (m : count ≡ product (extentsOf t)) where
+        new : (z : List ℕ) (es : List (ℕ × Entry)) → Agrees s z es → isDescribed (idOf t) es ≡ false
+        new z es w = not-described s z es (idOf t) (rw j at l) (rw j at u) w
+
+        pub sda-many : (most : ℕ) → r .number ≡ 10 → r .count ≡ 0 → 4096 ≤ most → most < count → JudgedSDA t s r
+        unfolding checkSDA
+        sda-many most e c o k =
+            refused-by 10 (λ q. omega arith) e c (λ p z es w. rw (← h, f, good, new z es w, ← m, lt-ltb 4096 count (omega arith)))
+
+        pub sda-fine : r ≡ record { number = 0; layout = layout; count = count } → count ≤ 4096 → JudgedSDA t s r
+        unfolding checkSDA
+        sda-fine e k =
+            record {
+              result = λ p z es w.
+                  rw (← h, f, good, new z es w, ← m, le-ltb 4096 count k, e) (found-outcome 0 p (described (idOf t) (extentsOf t) es) refl);
+              count = λ q. rw e m;
+              layout = λ q. rw e (layout-is layout (codeOf t) (goodSDA t) g good);
+              length-good = λ q. sym h ∙ f;
+              good = λ q. good;
+              small = rw e k;
+            }
 
 -- an SDA of good length has its first 12 bytes
 module _ (t : List ℕ) (h : goodLengthSDA t ≡ true) where

@@ -8,9 +8,11 @@ use mathlib.Core.Option.{Option, none, some}
 use lib.Dec.{ltb, leb, eqb}
 use lib.ListN.{length, getD}
 use Rattle.fdoca.specs.Basics.{if_then_else_, big, product, lookup, Result, refuse, ok}
-use Rattle.fdoca.specs.Triplet.{Group, idOf, extentsOf}
+use Rattle.fdoca.specs.Triplet.{Group, idOf, codeOf, extentsOf}
 use Rattle.fdoca.specs.Check.{Entry, array, row, countOf, State, maxItems, goodLengthSDA, goodSDA, addGroup, addGroups, checkSDA, checkRLO, checkCPT, checkISD}
+use Rattle.field_types.specs.Parameters.{layoutNumber}
 use Rattle.triplets.specs.declared.Sum.{Sum}
+use Rattle.triplets.specs.declared.Judged.{Judged}
 use Rattle.plans.specs.Tied.{lowerOf}
 
 -- A refusal at the triplet's place p, or what was found.
@@ -64,10 +66,11 @@ abbrev pub summed : (sum n : ℕ) → Sum
 summed sum n = if ltb maxItems (sum + n) then record { number = 10; count = 0 } else record { number = 0; count = sum + n }
 
 -- What judging an SDA's bytes t gives, where `s` has the positions of the described ids.
-pub record JudgedSDA (t s : List ℕ) (r : Sum) : Type 0 where
+pub record JudgedSDA (t s : List ℕ) (r : Judged) : Type 0 where
   pub result : (p : ℕ) (z : List ℕ) (es : List (ℕ × Entry)) → Agrees s z es
       → checkSDA es p t ≡ outcome (r .number) p (described (idOf t) (extentsOf t) es)
   pub count : r .number ≡ 0 → r .count ≡ product (extentsOf t)
+  pub layout : r .number ≡ 0 → r .layout ≡ layoutNumber (codeOf t)
   pub length-good : r .number ≡ 0 → goodLengthSDA t ≡ true
   pub good : r .number ≡ 0 → goodSDA t ≡ true
   pub small : r .count ≤ 4096

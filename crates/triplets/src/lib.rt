@@ -4,9 +4,10 @@ ghost use Prim.Native.Nat.{_+_, _-_, _*_, _/_, _%_, _≤_, _<_};
 ghost use mathlib.Core.Bool.{true};
 ghost use mathlib.Core.List.{[], _∷_};
 ghost use lib.ListN.{length};
-ghost use Rattle.fdoca.specs.Triplet.{extentsOf, groupsOf};
+ghost use Rattle.fdoca.specs.Triplet.{codeOf, extentsOf, groupsOf};
 ghost use Rattle.fdoca.specs.Basics.{elem, product};
 ghost use Rattle.fdoca.specs.Check.{goodLengthSDA, goodSDA, goodLengthRow, goodLengthISD, goodISD};
+ghost use Rattle.field_types.specs.Parameters.{layoutNumber, layoutIf};
 ghost use Rattle.plans.specs.Tied.{lowerOf};
 ghost use Rattle.triplets.specs.Judged.{extentOr1, summed, JudgedSDA, AddedGroup, AddedGroups, JudgedRLO, JudgedCPT, JudgedISD};
 ghost use Rattle.triplets.specs.Kept.{EntryOf, PutSDA};
@@ -28,6 +29,23 @@ fn refusal(number: u8) -> Sum
 {
     Sum {
         number: number,
+        count: 0,
+    }
+}
+
+// What judging an SDA gives: its layout's number and its item count, or the number of its refusal.
+pub struct Judged {
+    pub number: u8,
+    pub layout: u8,
+    pub count: usize,
+}
+
+fn refused(number: u8) -> Judged
+    ensures { λ r. ⌜ (r .number ≡ number) × (r .count ≡ 0) ⌝ }
+{
+    Judged {
+        number: number,
+        layout: 0,
         count: 0,
     }
 }
@@ -108,40 +126,42 @@ fn item_count(t: &[u8]) -> usize
     extent(t, 12) * lower_product(t)
 }
 
-// An SDA's id, type, parameters and extents.
-fn sda_good(t: &[u8]) -> bool
+// The layout's number of an SDA whose id, type, parameters and extents are good, else NO_LAYOUT.
+fn sda_layout(t: &[u8]) -> u8
     requires { ⌜ goodLengthSDA (now t) ≡ true ⌝ }
-    ensures { λ r. ⌜ r ≡ goodSDA (now (t .entry)) ⌝ }
+    ensures { λ r. ⌜ r ≡ layoutIf (goodSDA (now (t .entry))) (codeOf (now (t .entry))) ⌝ }
 {
     if t[2] == 0 {
-        return false;
+        return field_types::NO_LAYOUT;
     }
-    if !field_types::parameters_ok(t[3], &t[4..12]) {
-        return false;
+    if item_count(t) == 0 {
+        return field_types::NO_LAYOUT;
     }
-    0 < item_count(t)
+    field_types::layout_of(t[3], &t[4..12])
 }
 
-// An SDA's item count, or the number of its refusal.
-pub fn judge_sda(t: &[u8], starts: &[u16; 256]) -> Sum
+// An SDA's layout and item count, or the number of its refusal.
+pub fn judge_sda(t: &[u8], starts: &[u16; 256]) -> Judged
     ensures { λ r. ⌜ JudgedSDA (now (t .entry)) (now (starts .entry)) r ⌝ }
 {
     if !sda_length(t) {
-        return refusal(5);
+        return refused(5);
     }
-    if !sda_good(t) {
-        return refusal(6);
+    let layout = sda_layout(t);
+    if layout == field_types::NO_LAYOUT {
+        return refused(6);
     }
     let id = wide(t[2]);
     if starts[id] != NOWHERE {
-        return refusal(7);
+        return refused(7);
     }
     let n = item_count(t);
     if MOST < n {
-        return refusal(10);
+        return refused(10);
     }
-    Sum {
+    Judged {
         number: 0,
+        layout: layout,
         count: n,
     }
 }
@@ -310,13 +330,11 @@ fn wide64(b: u8) -> u64
 }
 
 // The plan's entry for an SDA's field.
-fn plan_entry(t: &[u8]) -> u64
-    requires { ⌜ goodLengthSDA (now t) ≡ true ⌝ }
+fn plan_entry(t: &[u8], layout: u8) -> u64
+    requires { ⌜ (goodLengthSDA (now t) ≡ true) × (layout ≡ layoutNumber (codeOf (now t))) ⌝ }
     ensures { λ r. ⌜ EntryOf (now (t .entry)) r ⌝ }
 {
-    let rule = field_types::rule_at(field_types::row_of(t[3]));
-    let layout = wide64(rule.prefix);
-    let mode = wide64(t[9]) + 256 * layout;
+    let mode = wide64(t[9]) + 256 * wide64(layout);
     let code = wide64(t[3]) + 256 * mode;
     let id = wide64(t[2]) + 256 * code;
     let length = wide64(t[10]) * 256 + wide64(t[11]);
@@ -338,17 +356,17 @@ fn lower_of(t: &[u8]) -> usize
 pub fn put_sda(
     t: &[u8],
     p: usize,
-    count: usize,
+    judged: Judged,
     starts: &mut [u16; 256],
     sizes: &mut [u32; 256],
     entries: &mut [u64; 256],
 )
-    requires { ⌜ (goodLengthSDA (now t) ≡ true) × (goodSDA (now t) ≡ true) × (p < 4096) × (count ≡ product (extentsOf (now t))) × (count ≤ 4096) ⌝ }
+    requires { ⌜ (goodLengthSDA (now t) ≡ true) × (goodSDA (now t) ≡ true) × (p < 4096) × (judged .count ≡ product (extentsOf (now t))) × (judged .count ≤ 4096) × (judged .layout ≡ layoutNumber (codeOf (now t))) ⌝ }
     ensures { λ _. ⌜ PutSDA (now (t .entry)) p (now (starts .entry)) (now (sizes .entry)) (now (entries .entry)) (now (starts .exit)) (now (sizes .exit)) (now (entries .exit)) ⌝ }
 {
     let id = wide(t[2]);
     let lower = lower_of(t);
     starts[id] = p as u16;
-    sizes[id] = (count + 65536 * lower) as u32;
-    entries[id] = plan_entry(t);
+    sizes[id] = (judged.count + 65536 * lower) as u32;
+    entries[id] = plan_entry(t, judged.layout);
 }

@@ -1,28 +1,102 @@
--- The table holds the definitions' rules: one test at each of its rows, which is computed.
+-- The table holds the definitions' rules: each row's is computed.
 use borrow.Author.Needs.{needs}
 use Rattle.fdoca.specs.FieldType.{ruleOf}
 use Rattle.field_types.specs.Rows.{typeAt, prefixOf, topOf, sizesOf, sizeAt, inNumbers, ruleFor, encoded, ruleAt}
-use Rattle.field_types.proofs.Rows.{in-table, past-table}
+use Rattle.field_types.proofs.Rows.{in-row, outside-table}
 use Rattle.field_types.proofs.rule_at.Statement.{statement}
 use Rattle.field_types.proofs.rule_at.Tie as tie
-
-mul-result : tie.Need-mul-result
-mul-result c = search needs
 
 array-copy-out-result : tie.Need-array-copy-out-result
 array-copy-out-result c = search needs
 
-returns : tie.Need-returns
-unfolding ruleAt encoded ruleFor ruleOf inNumbers sizeAt sizesOf topOf prefixOf typeAt
-returns c = search (in-table)
-
 array-copy-out-result-2 : tie.Need-array-copy-out-result-2
 array-copy-out-result-2 c = search needs
 
+array-copy-out-result-3 : tie.Need-array-copy-out-result-3
+array-copy-out-result-3 c = search needs
+
+array-copy-out-result-4 : tie.Need-array-copy-out-result-4
+array-copy-out-result-4 c = search needs
+
+array-copy-out-result-5 : tie.Need-array-copy-out-result-5
+array-copy-out-result-5 c = search needs
+
+array-copy-out-result-6 : tie.Need-array-copy-out-result-6
+array-copy-out-result-6 c = search needs
+
+array-copy-out-result-7 : tie.Need-array-copy-out-result-7
+array-copy-out-result-7 c = search needs
+
+array-copy-out-result-8 : tie.Need-array-copy-out-result-8
+array-copy-out-result-8 c = search needs
+
+array-copy-out-result-9 : tie.Need-array-copy-out-result-9
+array-copy-out-result-9 c = search needs
+
+array-copy-out-result-10 : tie.Need-array-copy-out-result-10
+array-copy-out-result-10 c = search needs
+
+returns : tie.Need-returns
+unfolding ruleAt encoded ruleFor ruleOf inNumbers sizeAt sizesOf topOf prefixOf typeAt
+returns c = search (in-row)
+
 returns-2 : tie.Need-returns-2
+unfolding ruleAt encoded ruleFor ruleOf inNumbers sizeAt sizesOf topOf prefixOf typeAt
+returns-2 c = search (in-row)
+
+returns-3 : tie.Need-returns-3
+unfolding ruleAt encoded ruleFor ruleOf inNumbers sizeAt sizesOf topOf prefixOf typeAt
+returns-3 c = search (in-row)
+
+returns-4 : tie.Need-returns-4
+unfolding ruleAt encoded ruleFor ruleOf inNumbers sizeAt sizesOf topOf prefixOf typeAt
+returns-4 c = search (in-row)
+
+returns-5 : tie.Need-returns-5
+unfolding ruleAt encoded ruleFor ruleOf inNumbers sizeAt sizesOf topOf prefixOf typeAt
+returns-5 c = search (in-row)
+
+returns-6 : tie.Need-returns-6
+unfolding ruleAt encoded ruleFor ruleOf inNumbers sizeAt sizesOf topOf prefixOf typeAt
+returns-6 c = search (in-row)
+
+returns-7 : tie.Need-returns-7
+unfolding ruleAt encoded ruleFor ruleOf inNumbers sizeAt sizesOf topOf prefixOf typeAt
+returns-7 c = search (in-row)
+
+returns-8 : tie.Need-returns-8
+unfolding ruleAt encoded ruleFor ruleOf inNumbers sizeAt sizesOf topOf prefixOf typeAt
+returns-8 c = search (in-row)
+
+returns-9 : tie.Need-returns-9
+unfolding ruleAt encoded ruleFor ruleOf inNumbers sizeAt sizesOf topOf prefixOf typeAt
+returns-9 c = search (in-row)
+
+returns-10 : tie.Need-returns-10
 unfolding encoded ruleFor inNumbers sizeAt sizesOf topOf prefixOf
-returns-2 c = search (past-table)
+returns-10 c = search (outside-table)
 
 pub rule-at-spec : {M : Type 1} → statement M
 rule-at-spec =
-    tie.close (tie.spec mul-result array-copy-out-result returns array-copy-out-result-2 returns-2)
+    tie.close
+    (tie.spec
+    array-copy-out-result
+    array-copy-out-result-2
+    array-copy-out-result-3
+    array-copy-out-result-4
+    array-copy-out-result-5
+    array-copy-out-result-6
+    array-copy-out-result-7
+    array-copy-out-result-8
+    array-copy-out-result-9
+    array-copy-out-result-10
+    returns
+    returns-2
+    returns-3
+    returns-4
+    returns-5
+    returns-6
+    returns-7
+    returns-8
+    returns-9
+    returns-10)

@@ -8,20 +8,20 @@ use Rattle.triplets.proofs.judge_sda.Tie as tie
 sda-length-requires : tie.Need-sda-length-requires
 sda-length-requires c κs = search needs
 
-refusal-requires : tie.Need-refusal-requires
-refusal-requires c κs = search needs
+refused-requires : tie.Need-refused-requires
+refused-requires c κs = search needs
 
 returns : tie.Need-returns
 returns c = search (sda-bad-length, not-true)
 
-sda-good-requires : tie.Need-sda-good-requires
-sda-good-requires c κs = search (is-true, not-false)
+sda-layout-requires : tie.Need-sda-layout-requires
+sda-layout-requires c κs = search (is-true, not-false)
 
-refusal-requires-2 : tie.Need-refusal-requires-2
-refusal-requires-2 c κs = search needs
+refused-requires-2 : tie.Need-refused-requires-2
+refused-requires-2 c κs = search needs
 
 returns-2 : tie.Need-returns-2
-returns-2 c = search (sda-bad, not-true, not-false)
+returns-2 c = search (sda-bad, not-false)
 
 shared-slice-read-wide : tie.Need-shared-slice-read-wide
 shared-slice-read-wide c = search (needs, has, is-true, not-false)
@@ -35,8 +35,8 @@ mul-if3 c = search needs
 element-copy-out-if3 : tie.Need-element-copy-out-if3
 element-copy-out-if3 c = search needs
 
-refusal-requires-3 : tie.Need-refusal-requires-3
-refusal-requires-3 c κs = search needs
+refused-requires-3 : tie.Need-refused-requires-3
+refused-requires-3 c κs = search needs
 
 returns-3 : tie.Need-returns-3
 returns-3 c = search (sda-taken, not-false)
@@ -44,8 +44,8 @@ returns-3 c = search (sda-taken, not-false)
 item-count-requires : tie.Need-item-count-requires
 item-count-requires c κs = search (is-true, not-false)
 
-refusal-requires-4 : tie.Need-refusal-requires-4
-refusal-requires-4 c κs = search needs
+refused-requires-4 : tie.Need-refused-requires-4
+refused-requires-4 c κs = search needs
 
 returns-4 : tie.Need-returns-4
 returns-4 c = search (needs, sda-many, not-false)
@@ -58,18 +58,18 @@ judge-sda-spec =
     tie.close
     (tie.spec
     sda-length-requires
-    refusal-requires
+    refused-requires
     returns
-    sda-good-requires
-    refusal-requires-2
+    sda-layout-requires
+    refused-requires-2
     returns-2
     shared-slice-read-wide
     wide-requires
     mul-if3
     element-copy-out-if3
-    refusal-requires-3
+    refused-requires-3
     returns-3
     item-count-requires
-    refusal-requires-4
+    refused-requires-4
     returns-4
     returns-5)

@@ -4,20 +4,11 @@ use borrow.Author.Needs.{needs}
 use Rattle.triplets.proofs.plan_entry.Statement.{statement}
 use Rattle.triplets.proofs.plan_entry.Tie as tie
 
-shared-slice-read-row-of : tie.Need-shared-slice-read-row-of
-shared-slice-read-row-of c = search (needs, has)
-
-row-of-requires : tie.Need-row-of-requires
-row-of-requires c κs = search needs
-
-rule-at-requires : tie.Need-rule-at-requires
-rule-at-requires c κs = search needs
+shared-slice-read-wide64 : tie.Need-shared-slice-read-wide64
+shared-slice-read-wide64 c = search (needs, has)
 
 wide64-requires : tie.Need-wide64-requires
 wide64-requires c κs = search needs
-
-shared-slice-read-wide64 : tie.Need-shared-slice-read-wide64
-shared-slice-read-wide64 c = search (needs, has)
 
 wide64-requires-2 : tie.Need-wide64-requires-2
 wide64-requires-2 c κs = search needs
@@ -83,11 +74,8 @@ pub plan-entry-spec : {M : Type 1} → statement M
 plan-entry-spec =
     tie.close
     (tie.spec
-    shared-slice-read-row-of
-    row-of-requires
-    rule-at-requires
-    wide64-requires
     shared-slice-read-wide64
+    wide64-requires
     wide64-requires-2
     mul-mode
     add-mode

@@ -1,13 +1,17 @@
 use borrow.Author.Needs.{needs}
-use Rattle.field_types.proofs.Allowed.{not-eight, by-rule, unused-set}
-use Rattle.field_types.proofs.parameters_ok.Statement.{statement}
-use Rattle.field_types.proofs.parameters_ok.Tie as tie
+use borrow.Author.Tests.{not-true, not-false}
+use Rattle.field_types.proofs.Allowed.{no-layout, not-eight, unused-set, by-rule, by-layout}
+use Rattle.field_types.proofs.layout_of.Statement.{statement}
+use Rattle.field_types.proofs.layout_of.Tie as tie
 
 returns : tie.Need-returns
-returns c = search (not-eight)
+returns c = search (no-layout, not-eight)
 
 unused-zero-requires : tie.Need-unused-zero-requires
 unused-zero-requires c κs = search needs
+
+returns-2 : tie.Need-returns-2
+returns-2 c = search (no-layout, unused-set, not-true)
 
 row-of-requires : tie.Need-row-of-requires
 row-of-requires c κs = search needs
@@ -39,18 +43,19 @@ pair-requires-2 c κs = search needs
 rule-allows-requires : tie.Need-rule-allows-requires
 rule-allows-requires c κs = search needs
 
-returns-2 : tie.Need-returns-2
-returns-2 c = search (by-rule)
-
 returns-3 : tie.Need-returns-3
-returns-3 c = search (unused-set)
+returns-3 c = search (by-layout, by-rule, not-false)
 
-pub parameters-ok-spec : {M : Type 1} → statement M
-parameters-ok-spec =
+returns-4 : tie.Need-returns-4
+returns-4 c = search (no-layout, by-rule, not-false)
+
+pub layout-of-spec : {M : Type 1} → statement M
+layout-of-spec =
     tie.close
     (tie.spec
     returns
     unused-zero-requires
+    returns-2
     row-of-requires
     rule-at-requires
     shared-slice-read-pair
@@ -61,5 +66,5 @@ parameters-ok-spec =
     shared-slice-read-pair-4
     pair-requires-2
     rule-allows-requires
-    returns-2
-    returns-3)
+    returns-3
+    returns-4)
