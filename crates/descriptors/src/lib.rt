@@ -10,7 +10,6 @@ ghost use Rattle.fdoca.specs.Check.{check, checkTriplets, begin};
 ghost use Rattle.fdoca.specs.Calls.{checked};
 ghost use Rattle.descriptors.specs.Holds.{MakesSame, Held, ClosedRow, SteppedSDA, SteppedRLO, SteppedCPT, Advanced, Bare, Examination};
 use fdoca::Checked;
-use triplets::Sum;
 
 // What the triplets so far have led to: a refusal's number, or the SDA or RLO that was described last, with its id (0 for none) and its count.
 // `row` is set while a CPT may continue an RLO, and `at` is then its place.
@@ -52,12 +51,6 @@ fn bare(number: u8) -> Step
     }
 }
 
-fn wide(b: u8) -> usize
-    ensures { λ r. ⌜ (r ≡ b) × (r < 256) ⌝ }
-{
-    b as usize
-}
-
 // The place of a row that makes the list of the one at `at`, which ends at p: its own, or, where its only group is another row once, that
 // row's. So going down the references never passes through such rows one by one.
 fn row_place(desc: &[u8], starts: &[u16; 256], entries: &[u64; 256], at: usize, p: usize) -> u16
@@ -74,7 +67,7 @@ fn row_place(desc: &[u8], starts: &[u16; 256], entries: &[u64; 256], at: usize, 
     if desc[at + 5] != 1 {
         return own;
     }
-    let id = wide(desc[at + 3]);
+    let id = field_types::wide(desc[at + 3]);
     if entries[id] != 0 {
         return own;
     }
@@ -97,7 +90,7 @@ fn close(
         return;
     }
     let place = row_place(desc, starts, entries, x.at, p);
-    let id = wide(x.id);
+    let id = field_types::wide(x.id);
     starts[id] = place;
     sizes[id] = x.count as u32;
     entries[id] = 0;
@@ -175,7 +168,7 @@ fn advance(
     requires { ⌜ Held (now desc) (now starts) (now sizes) (now entries) p x × (p < length (now desc)) × (length (now desc) ≤ 4096) ⌝ }
     ensures { λ r. ⌜ Advanced (now (desc .entry)) (now (starts .exit)) (now (sizes .exit)) (now (entries .exit)) p r ⌝ }
 {
-    let n = wide(desc[p]);
+    let n = field_types::wide(desc[p]);
     if n < 2 {
         return bare(2);
     }
@@ -232,7 +225,7 @@ pub fn examine(
         if x.number != 0 {
             return answer(x.number as u32, p as u32, 0, 0);
         }
-        p += wide(desc[p]);
+        p += field_types::wide(desc[p]);
     }
     if x.id == 0 {
         return answer(11, p as u32, 0, 0);

@@ -50,12 +50,6 @@ fn refused(number: u8) -> Judged
     }
 }
 
-fn wide(b: u8) -> usize
-    ensures { λ r. ⌜ (r ≡ b) × (r < 256) ⌝ }
-{
-    b as usize
-}
-
 // The two halves of a size: a count, and the product by which elements taken is multiplied.
 fn low(size: u32) -> usize
     ensures { λ r. ⌜ (r ≡ size % 65536) × (r < 65536) ⌝ }
@@ -151,7 +145,7 @@ pub fn judge_sda(t: &[u8], starts: &[u16; 256]) -> Judged
     if layout == field_types::NO_LAYOUT {
         return refused(6);
     }
-    let id = wide(t[2]);
+    let id = field_types::wide(t[2]);
     if starts[id] != NOWHERE {
         return refused(7);
     }
@@ -195,13 +189,13 @@ fn add_group(start: u16, size: u32, taken: u8, factor: u8, sum: usize) -> Sum
     if factor == 0 {
         return refusal(9);
     }
-    let times = wide(factor);
+    let times = field_types::wide(factor);
     let count = low(size);
     if taken == 0 {
         return total(sum, times * count);
     }
     let lower = high(size);
-    let part = wide(taken) * lower;
+    let part = field_types::wide(taken) * lower;
     if lower == 0 {
         return refusal(9);
     }
@@ -216,7 +210,7 @@ fn add_groups(t: &[u8], starts: &[u16; 256], sizes: &[u32; 256], sum: usize) -> 
     let mut n = sum;
     let mut g = 3;
     while g < t.len() {
-        let id = wide(t[g]);
+        let id = field_types::wide(t[g]);
         let added = add_group(starts[id], sizes[id], t[g + 1], t[g + 2], n);
         if added.number != 0 {
             return added;
@@ -240,7 +234,7 @@ pub fn judge_rlo(t: &[u8], starts: &[u16; 256], sizes: &[u32; 256]) -> Sum
     if t[2] == 0 {
         return refusal(6);
     }
-    let own = wide(t[2]);
+    let own = field_types::wide(t[2]);
     if starts[own] != NOWHERE {
         return refusal(7);
     }
@@ -364,7 +358,7 @@ pub fn put_sda(
     requires { ⌜ (goodLengthSDA (now t) ≡ true) × (goodSDA (now t) ≡ true) × (p < 4096) × (judged .count ≡ product (extentsOf (now t))) × (judged .count ≤ 4096) × (judged .layout ≡ layoutNumber (codeOf (now t))) ⌝ }
     ensures { λ _. ⌜ PutSDA (now (t .entry)) p (now (starts .entry)) (now (sizes .entry)) (now (entries .entry)) (now (starts .exit)) (now (sizes .exit)) (now (entries .exit)) ⌝ }
 {
-    let id = wide(t[2]);
+    let id = field_types::wide(t[2]);
     let lower = lower_of(t);
     starts[id] = p as u16;
     sizes[id] = (judged.count + 65536 * lower) as u32;
