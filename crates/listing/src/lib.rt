@@ -193,8 +193,7 @@ fn size_in(s: &[u8]) -> usize
 }
 
 // Writes what the dump program prints of a file into the text, and gives the length of it: at most 90,112 bytes.
-pub fn write_dump(file: &[u8], text: &mut [u8]) -> usize
-    requires { ⌜ 90112 ≤ length (now text) ⌝ }
+pub fn write_dump(file: &[u8], text: &mut [u8; 90112]) -> usize
     ensures { λ r. ⌜ (r ≡ length (dump (now (file .entry)))) × (now (text .exit) ≡ sets (now (text .entry)) 0 (dump (now (file .entry)))) × (r ≤ 90112) ⌝ }
 {
     if file.len() < 8 {

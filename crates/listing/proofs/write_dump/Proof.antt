@@ -8,9 +8,6 @@ use Rattle.listing.proofs.write_dump.Tie as tie
 put-refusal-requires : tie.Need-put-refusal-requires
 put-refusal-requires c κs = search needs
 
-same-length : tie.Need-same-length
-same-length c = search needs
-
 returns : tie.Need-returns
 returns c = all-said _ _ _ _ (search short-file)
 
@@ -35,17 +32,11 @@ size-in-requires-2 c κs = search needs
 put-refusal-requires-2 : tie.Need-put-refusal-requires-2
 put-refusal-requires-2 c κs = search needs
 
-same-length-2 : tie.Need-same-length-2
-same-length-2 c = search needs
-
 returns-2 : tie.Need-returns-2
 returns-2 c = all-said _ _ _ _ (search large-descriptor)
 
 put-refusal-requires-3 : tie.Need-put-refusal-requires-3
 put-refusal-requires-3 c κs = search needs
-
-same-length-3 : tie.Need-same-length-3
-same-length-3 c = search needs
 
 returns-3 : tie.Need-returns-3
 returns-3 c = all-said _ _ _ _ (search large-data)
@@ -58,9 +49,6 @@ add-if4-2 c = search needs
 
 put-refusal-requires-4 : tie.Need-put-refusal-requires-4
 put-refusal-requires-4 c κs = search needs
-
-same-length-4 : tie.Need-same-length-4
-same-length-4 c = search needs
 
 returns-4 : tie.Need-returns-4
 returns-4 c = all-said _ _ _ _ (search other-length)
@@ -89,9 +77,6 @@ part-write-block-end-2 c = search needs
 write-block-requires : tie.Need-write-block-requires
 write-block-requires c κs = search needs
 
-same-length-5 : tie.Need-same-length-5
-same-length-5 c = search needs
-
 returns-5 : tie.Need-returns-5
 returns-5 c = all-said _ _ _ _ (search whole-file)
 
@@ -100,7 +85,6 @@ write-dump-spec =
     tie.close
     (tie.spec
     put-refusal-requires
-    same-length
     returns
     slice-aggregate-size-in
     size-in-requires
@@ -109,15 +93,12 @@ write-dump-spec =
     part-size-in-end
     size-in-requires-2
     put-refusal-requires-2
-    same-length-2
     returns-2
     put-refusal-requires-3
-    same-length-3
     returns-3
     add-if4
     add-if4-2
     put-refusal-requires-4
-    same-length-4
     returns-4
     add-end
     sub-write-block
@@ -127,5 +108,4 @@ write-dump-spec =
     part-write-block-start-2
     part-write-block-end-2
     write-block-requires
-    same-length-5
     returns-5)
