@@ -3,35 +3,27 @@
 use reader::*;
 
 use crate::support::{
-    assert_block, assert_check, every_sda, hex, refused, rows, sda, with_indicator, Answer,
+    assert_behind_indicator, assert_block, assert_blocks, assert_check, every_sda, hex,
+    is_nullable, refused, rows, sda, Answer,
 };
 
 const BLOCKS: &str = include_str!("example_blocks.txt");
 
 #[test]
 fn blocks_of_one_item() {
-    for [name, descriptor, data, answer] in rows(BLOCKS) {
-        assert_block(name, &hex(descriptor), &hex(data), &Answer::parse(answer));
-    }
+    assert_blocks(rows(BLOCKS));
 }
 
 #[test]
 fn blocks_of_one_nullable_item() {
-    for [name, descriptor, data, answer] in rows(BLOCKS) {
-        let answer = Answer::parse(answer).after_indicator();
-        for indicator in [0x00, 0x7F] {
-            let nullable = with_indicator(&hex(descriptor), &hex(data), indicator);
-            let (descriptor, data) = nullable.expect(name);
-            assert_block(name, &descriptor, &data, &answer);
-        }
-    }
+    assert_behind_indicator(rows(BLOCKS));
 }
 
 #[test]
 fn a_null_is_its_indicator_alone() {
     let surplus = Answer::parse("refused 16 1");
     let missing = Answer::parse("refused 13 0");
-    for sda in every_sda().iter().filter(|sda| sda[3] & 0x80 != 0) {
+    for sda in every_sda().iter().filter(|sda| is_nullable(sda)) {
         for indicator in [0x80, 0xFF] {
             assert_block("null", sda, &[indicator], &Answer::Null);
             assert_block("surplus", sda, &[indicator, 0], &surplus);
@@ -54,7 +46,7 @@ fn a_null_whole_number_is_zero_with_its_mark() {
 
 #[test]
 fn a_null_of_another_type_is_the_wrong_kind() {
-    let nullable = every_sda().into_iter().filter(|sda| sda[3] & 0x80 != 0);
+    let nullable = every_sda().into_iter().filter(|sda| is_nullable(sda));
     for sda in nullable.filter(|sda| !matches!(sda[3], 0xA3 | 0xA4)) {
         let descriptor = [sda, hex("0671A1B10002")].concat();
         let whole = |item| whole_number(&descriptor, &[0x80, 0x80], item);

@@ -76,12 +76,9 @@ pub fn refused<T>(number: u32, place: u32) -> Result<T, Refusal> {
     Err(Refusal { number, place })
 }
 
-/// The nullable form of a descriptor of one SDA, and its data behind an
-/// indicator. None if it is nullable already.
-pub fn with_indicator(descriptor: &[u8], data: &[u8], indicator: u8) -> Option<(Vec<u8>, Vec<u8>)> {
-    let mut nullable = descriptor.to_vec();
-    nullable[3] |= 0x80;
-    (nullable != descriptor).then(|| (nullable, [&[indicator], data].concat()))
+/// Whether the first SDA's type is nullable.
+pub fn is_nullable(descriptor: &[u8]) -> bool {
+    descriptor[3] & 0x80 != 0
 }
 
 /// An SDA without extents.
@@ -124,6 +121,29 @@ pub fn assert_check(name: &str, descriptor: &[u8], answer: &str) {
         _ => panic!("{answer}"),
     };
     assert_eq!(check(descriptor), expected, "{name}");
+}
+
+/// Name, descriptor, data, answer for item 0.
+pub type BlockRow<'t> = [&'t str; 4];
+
+pub fn assert_blocks<'t>(rows: impl IntoIterator<Item = BlockRow<'t>>) {
+    for [name, descriptor, data, answer] in rows {
+        assert_block(name, &hex(descriptor), &hex(data), &Answer::parse(answer));
+    }
+}
+
+/// Asserts blocks of one plain item with the item made nullable, behind an indicator.
+pub fn assert_behind_indicator<'t>(rows: impl IntoIterator<Item = BlockRow<'t>>) {
+    for [name, descriptor, data, answer] in rows {
+        let (mut descriptor, data) = (hex(descriptor), hex(data));
+        assert!(!is_nullable(&descriptor), "{name}");
+        descriptor[3] |= 0x80;
+        let answer = Answer::parse(answer).after_indicator();
+        for indicator in [0x00, 0x01, 0x7F] {
+            let data = [&[indicator], &data[..]].concat();
+            assert_block(name, &descriptor, &data, &answer);
+        }
+    }
 }
 
 /// Asserts what all calls with data give for item 0 of a block whose descriptor
