@@ -75,7 +75,7 @@ fn print_table(rows: &[Measurement]) {
         );
     }
     println!();
-    for call in ["list", "state", "check"] {
+    for call in ["list", "list anew", "state", "check"] {
         let of_call = rows.iter().filter(|row| row.call == call);
         let ratios: Vec<f64> = of_call.map(|row| row.timing.ratio).collect();
         println!("{call}: geometric mean {:.2}", geometric_mean(&ratios));

@@ -37,7 +37,12 @@ impl Measurement {
 
 type Call = (&'static str, fn(&Input) -> Timing);
 
-const CALLS: [Call; 3] = [("list", list), ("state", state), ("check", check)];
+const CALLS: [Call; 4] = [
+    ("list", list),
+    ("list anew", list_anew),
+    ("state", state),
+    ("check", check),
+];
 
 /// Measures all, and prints a line for each.
 pub fn print_all() {
@@ -56,6 +61,15 @@ pub fn print_all() {
 }
 
 fn list(input: &Input) -> Timing {
+    time_list(input, |_| ())
+}
+
+/// The list beside a reader that keeps no buffers between calls, as the library keeps none.
+fn list_anew(input: &Input) -> Timing {
+    time_list(input, |reader| *reader = Reader::default())
+}
+
+fn time_list(input: &Input, before: impl Fn(&mut Reader)) -> Timing {
     let (descriptor, data) = (&input.descriptor[..], &input.data[..]);
     let mut reader = Reader::default();
     let mut by_library = vec![7; 2 + 2 * MAX_ITEMS];
@@ -71,6 +85,7 @@ fn list(input: &Input) -> Timing {
             let _ = black_box(answer);
         },
         || {
+            before(&mut reader);
             let answer = reader.list(black_box(descriptor), black_box(data), &mut by_rust);
             let _ = black_box(answer);
         },
