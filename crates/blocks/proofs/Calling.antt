@@ -1,21 +1,19 @@
 -- The calls from the examination of the descriptor on: refusals in their order, and the walk.
 -- Assumes nothing.
-use mathlib.Core.Path.{_≡_, refl, sym, ap, _∙_}
+use mathlib.Core.Path.{_≡_, refl}
 use Prim.Native.Nat.{ℕ, _+_, _*_, _≤_, _<_}
 use native.Mathlib.Omega.{arith}
 use mathlib.Core.Bool.{Bool, true, false, _||_}
 use mathlib.Core.List.{List}
-use mathlib.Core.Option.{Option, none, some}
 use lib.Dec.{ltb}
 use lib.ListN.{length, getElem?}
-use borrow.Author.Tests.{lt-ltb, le-ltb, ltb-false}
+use borrow.Author.Tests.{lt-ltb, le-ltb}
 use Rattle.fdoca.specs.declared.Listed.{Listed}
-use Rattle.fdoca.specs.Basics.{Result, refuse, ok, _>>=_, _>>_, reject, the}
-use Rattle.fdoca.specs.Walk.{Note, walk}
+use Rattle.fdoca.specs.Basics.{Result, refuse, _>>=_, _>>_, reject, the}
+use Rattle.fdoca.specs.Walk.{walk}
 use Rattle.fdoca.specs.Check.{maxDescriptor, check}
 use Rattle.fdoca.specs.Unfolding.{unfolded}
-use Rattle.fdoca.specs.Calls.{maxData, oversize, itemList, list, itemAt, checked, listed, entriesAfter}
-use Rattle.fdoca.proofs.Results.{ok-reject}
+use Rattle.fdoca.specs.Calls.{maxData, oversize, list, itemAt}
 use Rattle.descriptors.specs.declared.Examined.{Examined}
 use Rattle.descriptors.specs.Holds.{Examination, Ready}
 use Rattle.descriptors.proofs.Callers.{refused-by}

@@ -4,7 +4,7 @@ use mathlib.Core.Path.{_≡_}
 use mathlib.Core.List.{List}
 use lib.ListN.{length}
 use Rattle.fdoca.specs.declared.Listed.{Listed}
-use Rattle.fdoca.specs.Basics.{Result, refuse, ok, _>>=_}
+use Rattle.fdoca.specs.Basics.{Result, ok, _>>=_}
 use Rattle.fdoca.specs.Item.{Field}
 use Rattle.fdoca.specs.Walk.{Note, walk}
 use Rattle.fdoca.specs.Calls.{itemList, listed, entriesAfter, stateOf, lent}

@@ -1,22 +1,20 @@
 -- The ways over the triplet at p, in the words of the code: its bytes are a part of the descriptor, and the row before it was closed.
 -- Assumes nothing.
-use mathlib.Core.Path.{_≡_, refl, sym, ap, _∙_, subst}
+use mathlib.Core.Path.{_≡_, refl, sym, ap, _∙_}
 use mathlib.Core.Logic.{_≢_}
 use Prim.Native.Nat.{ℕ, _+_, _-_, _≤_, _<_}
 use native.Mathlib.Omega.{arith}
 use native.Mathlib.Nat.{add-sub-cancel-left}
-use mathlib.Core.Bool.{Bool, true, false}
-use mathlib.Core.List.{List, [], _∷_}
-use mathlib.Core.Option.{Option, none, some}
-use lib.Dec.{eqb}
+use mathlib.Core.List.{List}
+use mathlib.Core.Option.{none}
 use lib.ListN.{length, getD, take, drop}
 use lib.Seq.{getD-take, getD-drop}
 use borrow.Author.Tests.{ne-eqb}
 use Rattle.fdoca.specs.Triplet.{constructOf}
-use Rattle.fdoca.specs.Unfolding.{Layouts, closed}
+use Rattle.fdoca.specs.Unfolding.{closed}
 use Rattle.triplets.specs.Judged.{JudgedISD}
 use Rattle.descriptors.specs.declared.Step.{Step}
-use Rattle.descriptors.specs.Holds.{Tables, EndsAt, no-CPT, Holds, Held, ClosedRow, Bare, SteppedSDA, SteppedRLO, SteppedCPT, Advanced}
+use Rattle.descriptors.specs.Holds.{Tables, EndsAt, no-CPT, Held, ClosedRow, Bare, SteppedSDA, SteppedRLO, SteppedCPT, Advanced}
 use Rattle.descriptors.proofs.Moving.{sda-moved, rlo-moved, cpt-moved, isd-moved, other-moved}
 
 module _ (d s z e : List ℕ) (p n k : ℕ) (x r : Step) (held : Held d s z e p x) (there : p < length d) (en : n ≡ getD d p 0) (least : 2 ≤ n)

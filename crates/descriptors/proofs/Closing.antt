@@ -2,22 +2,22 @@
 -- Assumes nothing.
 use mathlib.Core.Path.{_≡_, refl, sym, ap, _∙_, subst}
 use mathlib.Core.Logic.{_≢_}
-use Prim.Native.Nat.{ℕ, zero, suc, _+_, _-_, _*_, _/_, _%_, _≤_, _<_}
+use Prim.Native.Nat.{ℕ, _+_, _-_, _/_, _%_, _≤_, _<_}
 use native.Mathlib.Omega.{arith}
-use mathlib.Core.Bool.{Bool, true, false, true≢false}
-use mathlib.Core.List.{List, [], _∷_, _++_, append-nil}
+use mathlib.Core.Bool.{true, false, true≢false}
+use mathlib.Core.List.{List, [], _∷_, append-nil}
 use mathlib.Core.Option.{Option, none, some}
 use lib.ListN.{length, getD, set, drop}
 use lib.Seq.{getD-set-same}
 use Rattle.fdoca.specs.Basics.{lookup}
 use Rattle.fdoca.specs.Triplet.{Group}
 use Rattle.fdoca.specs.Item.{Field}
-use Rattle.fdoca.specs.Unfolding.{Described, array, row, fieldsOf, fieldsTaken, fieldsReferred, groupFields, addFields, Layouts, closed, closeRow}
-use Rattle.fdoca.proofs.Count.{entry, entries}
-use Rattle.plans.specs.Tied.{groupsIn, groupsAt, caseOf, Groups, Takes, all, some-of, SdaKept}
+use Rattle.fdoca.specs.Unfolding.{Described, array, row, groupFields, addFields, Layouts, closeRow}
+use Rattle.fdoca.proofs.Count.{entry}
+use Rattle.plans.specs.Tied.{groupsIn, groupsAt, Groups, Takes, all}
 use Rattle.triplets.specs.Judged.{Entered}
 use Rattle.descriptors.specs.declared.Step.{Step}
-use Rattle.descriptors.specs.Holds.{RefersIn, RowIn, RowKeptIn, KeptIn, Placed, Tables, EndsAt, no-head, no-CPT, MakesSame, RowSoFar, AtHand, Current, Last, Holds, Held, ClosedRow}
+use Rattle.descriptors.specs.Holds.{RefersIn, RowIn, KeptIn, Tables, EndsAt, MakesSame, RowSoFar, Current, Last, Holds, Held, ClosedRow}
 use Rattle.descriptors.proofs.Rows.{three, ends-none, ends-all}
 use Rattle.descriptors.proofs.Grow.{grows, row-up, tables-put}
 

@@ -1,32 +1,32 @@
 -- The check from the first triplet to the last, and what an accepted descriptor leaves in the tables.
 -- Assumes nothing.
-use mathlib.Core.Path.{_≡_, refl, sym, ap, _∙_, subst}
+use mathlib.Core.Path.{_≡_, refl, sym, ap, _∙_}
 use mathlib.Core.Logic.{_≢_}
 use Prim.Native.Nat.{ℕ, _+_, _-_, _≤_, _<_}
 use native.Mathlib.Omega.{arith}
 use native.Mathlib.Nat.{sub-zero}
-use mathlib.Core.Bool.{Bool, true, false}
+use mathlib.Core.Bool.{true}
 use mathlib.Core.List.{List, [], _∷_}
-use mathlib.Core.Option.{Option, none, some}
-use lib.Dec.{ltb, eqb}
+use mathlib.Core.Option.{some}
+use lib.Dec.{eqb}
 use lib.ListN.{length, getD, drop, replicate, length-replicate, getD-replicate}
 use mir.Syntax.{w64}
 use mir.Val.{Fits}
 use borrow.Author.Tests.{lt-ltb, le-ltb, eq-eqb}
 use Rattle.fdoca.specs.declared.Checked.{Checked}
-use Rattle.fdoca.specs.Basics.{if_then_else_, lookup, Result, refuse, ok, _>>=_, _>>_, reject}
+use Rattle.fdoca.specs.Basics.{lookup, ok, _>>=_, _>>_}
 use Rattle.fdoca.specs.Triplet.{triplets, Group}
 use Rattle.fdoca.specs.Item.{Field}
-use Rattle.fdoca.specs.Check.{maxDescriptor, checkTriplets, lastCount, check}
+use Rattle.fdoca.specs.Check.{checkTriplets, lastCount, check}
 use Rattle.fdoca.specs.Check as C
-use Rattle.fdoca.specs.Unfolding.{Described, array, row, fieldsOf, Layouts, closed, closeRow, addFields, unfoldTriplets, start, lastFields, unfolded}
+use Rattle.fdoca.specs.Unfolding.{Described, array, row, fieldsOf, Layouts, closed, unfoldTriplets, start, lastFields, unfolded}
 use Rattle.fdoca.specs.Calls.{checked}
-use Rattle.fdoca.proofs.Triplets.{tripletsAt, triplets-end}
-use Rattle.fdoca.proofs.Count.{entry, entries, state, closed-state, length-fieldsOf}
-use Rattle.plans.specs.Tied.{groupsAt, Refers, RowAt, RowKept, Kept, Tied, Known, describedBy, listOf, rowList}
+use Rattle.fdoca.proofs.Triplets.{triplets-end}
+use Rattle.fdoca.proofs.Count.{entries, state, closed-state, length-fieldsOf}
+use Rattle.plans.specs.Tied.{Refers, RowAt, Kept, Tied, describedBy, listOf, rowList}
 use Rattle.descriptors.specs.declared.Step.{Step}
 use Rattle.descriptors.specs.declared.Examined.{Examined}
-use Rattle.descriptors.specs.Holds.{RefersIn, RowIn, RowKeptIn, KeptIn, Placed, Tables, EndsAt, no-head, Last, Holds, Held, ClosedRow, Bare, Advanced, Ready, Examination}
+use Rattle.descriptors.specs.Holds.{RefersIn, RowIn, KeptIn, Tables, no-head, Last, Holds, Held, ClosedRow, Bare, Advanced, Ready, Examination}
 use Rattle.descriptors.proofs.Rows.{groups-map}
 
 abbrev answered : ℕ → Checked

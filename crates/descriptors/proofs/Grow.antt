@@ -1,24 +1,23 @@
 -- The tables with one more id: what was described before stays as it was.
 -- Assumes nothing.
 use mathlib.Core.Path.{_≡_, refl, sym, ap, _∙_}
-use mathlib.Core.Logic.{_≢_}
-use Prim.Native.Nat.{ℕ, zero, suc, _+_, _-_, _*_, _/_, _%_, _≤_, _<_}
+use Prim.Native.Nat.{ℕ, _+_, _-_, _≤_, _<_}
 use native.Mathlib.Omega.{arith}
 use mathlib.Core.Bool.{Bool, true, false}
 use mathlib.Core.List.{List, [], _∷_, _++_}
-use mathlib.Core.Option.{Option, none, some}
+use mathlib.Core.Option.{none, some}
 use lib.Dec.{eqb}
-use lib.ListN.{length, getD, set, drop, length-set}
+use lib.ListN.{getD, set, drop, length-set}
 use lib.Seq.{getD-set-same, getD-set-other}
-use borrow.Author.Tests.{eq-eqb, ne-eqb, eqb-true, eqb-false}
-use Rattle.fdoca.specs.Basics.{if_then_else_, lookup, product}
+use borrow.Author.Tests.{ne-eqb, eqb-true, eqb-false}
+use Rattle.fdoca.specs.Basics.{if_then_else_, lookup}
 use Rattle.fdoca.specs.Triplet.{Group}
 use Rattle.fdoca.specs.Item.{Field}
-use Rattle.fdoca.specs.Unfolding.{Described, array, row, fieldsReferred, groupFields, addFields}
+use Rattle.fdoca.specs.Unfolding.{Described, array, row, groupFields, addFields}
 use Rattle.fdoca.proofs.Count.{entry, entries}
-use Rattle.plans.specs.Tied.{Groups, groupsAt, SdaKept}
-use Rattle.triplets.specs.Judged.{KeptAs, Entered, Agrees}
-use Rattle.descriptors.specs.Holds.{RefersIn, RowIn, RowKeptIn, KeptIn, Placed, Tables}
+use Rattle.plans.specs.Tied.{groupsAt}
+use Rattle.triplets.specs.Judged.{KeptAs, Entered}
+use Rattle.descriptors.specs.Holds.{RefersIn, RowIn, KeptIn, Placed, Tables}
 use Rattle.descriptors.proofs.Rows.{AllGroups, groups-all, groups-map}
 
 -- the list of groups that refer to described ids is the same where more are described

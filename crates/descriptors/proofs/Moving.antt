@@ -1,34 +1,34 @@
 -- From the triplet at p to the next: what the check has come to, and what is known there.
 -- Assumes nothing.
-use mathlib.Core.Path.{_≡_, refl, sym, ap, _∙_, subst}
+use mathlib.Core.Path.{_≡_, refl, sym, ap, _∙_}
 use mathlib.Core.Logic.{_≢_}
 use Prim.Native.Nat.{ℕ, zero, suc, _+_, _-_, _*_, _/_, _%_, _≤_, _<_}
 use native.Mathlib.Omega.{arith}
 use native.Mathlib.Nat.{mul-zero}
-use mathlib.Core.Bool.{Bool, true, false, not, _||_, true≢false}
+use mathlib.Core.Bool.{Bool, true, false, not, true≢false}
 use mathlib.Core.List.{List, [], _∷_, _++_, append-assoc}
 use mathlib.Core.Option.{Option, none, some}
-use lib.Dec.{ltb, eqb}
-use lib.ListN.{length, getD, set, take, drop, length-drop, length-replicate, replicate}
+use lib.Dec.{eqb}
+use lib.ListN.{length, getD, set, take, drop, length-drop, length-replicate}
 use lib.Seq.{getD-set-same, length-take-le, getD-take, getD-drop}
 use borrow.Author.Tests.{eq-eqb, ne-eqb, eqb-true}
-use Rattle.fdoca.specs.Basics.{if_then_else_, product, lookup, isSome, Result, refuse, ok, _>>=_, _>>_, reject, the}
-use Rattle.fdoca.specs.Triplet.{Triplet, torn, triplet, triplets, Construct, SDA, RLO, ISD, CPT, constructOf, constructs, idOf, codeOf, extentsOf, Group, groupsOf}
+use Rattle.fdoca.specs.Basics.{product, lookup, isSome, refuse, ok, _>>=_, _>>_}
+use Rattle.fdoca.specs.Triplet.{torn, triplet, triplets, constructOf, idOf, codeOf, extentsOf, Group, groupsOf}
 use Rattle.fdoca.specs.FieldType.{FieldType, typeOf}
 use Rattle.fdoca.specs.Item.{Field}
-use Rattle.fdoca.specs.Check.{Entry, State, maxItems, isDescribed, goodLengthSDA, goodSDA, goodLengthRow, addGroups, checkSDA, checkRLO, checkCPT, checkISD, checkConstruct, checkTriplet, checkTriplets, begin}
+use Rattle.fdoca.specs.Check.{Entry, State, isDescribed, goodLengthSDA, goodSDA, goodLengthRow, addGroups, checkSDA, checkRLO, checkCPT, checkISD, checkConstruct, checkTriplet, checkTriplets, begin}
 use Rattle.fdoca.specs.Check as C
-use Rattle.fdoca.specs.Unfolding.{Described, array, row, fieldsOf, fieldOf, groupFields, addFields, Layouts, closed, closeRow, unfoldSDA, unfoldRLO, unfoldCPT, unfoldConstruct, unfoldTriplet, unfoldTriplets, start}
+use Rattle.fdoca.specs.Unfolding.{Described, array, fieldOf, groupFields, addFields, Layouts, closed, closeRow, unfoldSDA, unfoldRLO, unfoldCPT, unfoldConstruct, unfoldTriplet, unfoldTriplets, start}
 use Rattle.fdoca.proofs.Results.{ok-of, ok-bind, ok-reject}
 use Rattle.fdoca.proofs.Triplets.{tripletsAt, triplets-short, triplets-past, triplets-next}
-use Rattle.fdoca.proofs.Count.{entry, entry?, entries, state, counted, closed-state, lookup-entries, check-triplet}
+use Rattle.fdoca.proofs.Count.{entry, entry?, entries, state, closed-state, lookup-entries, check-triplet}
 use Rattle.plans.specs.Plan.{entryOf, Proper}
-use Rattle.plans.specs.Tied.{groupsIn, groupsAt, Groups, lowerOf, SdaKept}
-use Rattle.triplets.specs.Judged.{Positive, Entered, Agrees, described, rowAtHand, outcome, GoodRow, JudgedISD}
-use Rattle.triplets.specs.Kept.{EntryOf, PutSDA}
+use Rattle.plans.specs.Tied.{groupsIn, groupsAt, lowerOf, SdaKept}
+use Rattle.triplets.specs.Judged.{Positive, Entered, described, rowAtHand, outcome, GoodRow, JudgedISD}
+use Rattle.triplets.specs.Kept.{PutSDA}
 use Rattle.triplets.proofs.Entries.{good-positive, good-id, good-type}
 use Rattle.descriptors.specs.declared.Step.{Step}
-use Rattle.descriptors.specs.Holds.{RefersIn, Placed, Tables, EndsAt, no-head, no-CPT, RowSoFar, AtHand, Current, Last, Holds, Held, ClosedRow, Bare, SteppedSDA, SteppedRLO, SteppedCPT, Advanced}
+use Rattle.descriptors.specs.Holds.{RefersIn, Placed, Tables, RowSoFar, AtHand, Current, Last, Holds, Held, Bare, SteppedSDA, SteppedRLO, SteppedCPT, Advanced}
 use Rattle.descriptors.proofs.Rows.{AllGroups, cpt-groups, cpt-all, own-groups, own-refer}
 use Rattle.descriptors.proofs.Refs.{groups-refer}
 use Rattle.descriptors.proofs.Grow.{tables-put, tables-later}

@@ -1,18 +1,15 @@
 -- What an accepted group refers to: one of the described ids, whose triplet stands before.
 -- Assumes nothing.
 use mathlib.Core.Path.{_≡_, refl, sym, ap, _∙_}
-use mathlib.Core.Logic.{_≢_}
-use Prim.Native.Nat.{ℕ, zero, suc, _+_, _*_, _≤_, _<_}
+use Prim.Native.Nat.{ℕ, zero, suc, _+_, _*_, _<_}
 use native.Mathlib.Omega.{arith}
-use mathlib.Core.Bool.{Bool, true, false}
 use mathlib.Core.List.{List, [], _∷_}
 use mathlib.Core.Option.{Option, none, some}
 use lib.Dec.{ltb, eqb}
-use lib.ListN.{length, getD}
+use lib.ListN.{getD}
 use borrow.Author.Tests.{eqb-false}
-use Rattle.fdoca.specs.Basics.{lookup, Result, refuse, ok, _>>=_, _>>_, reject, the}
+use Rattle.fdoca.specs.Basics.{lookup, ok, _>>=_, _>>_, reject, the}
 use Rattle.fdoca.specs.Triplet.{Group}
-use Rattle.fdoca.specs.Item.{Field}
 use Rattle.fdoca.specs.Check.{maxItems, countTaken, addGroup, addGroups}
 use Rattle.fdoca.specs.Check as C
 use Rattle.fdoca.specs.Unfolding.{Described, array, row}

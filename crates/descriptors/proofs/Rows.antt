@@ -2,7 +2,7 @@
 -- Assumes nothing.
 use mathlib.Core.Path.{_≡_, refl, sym, ap, _∙_, subst}
 use mathlib.Core.Logic.{_≢_}
-use Prim.Native.Nat.{ℕ, zero, suc, _+_, _-_, _%_, _≤_, _<_}
+use Prim.Native.Nat.{ℕ, suc, _+_, _-_, _%_, _≤_, _<_}
 use native.Mathlib.Omega.{arith}
 use mathlib.Core.Bool.{Bool, true, false}
 use mathlib.Core.List.{List, [], _∷_, _++_}
@@ -12,7 +12,7 @@ use lib.Seq.{drop-cons, drop-drop, drop-append-le, length-take-le, getD-drop}
 use borrow.Author.Tests.{lt-ltb, eq-eqb, ne-eqb}
 use Rattle.fdoca.specs.Basics.{if_then_else_}
 use Rattle.fdoca.specs.Triplet.{Group, threes, groupsOf}
-use Rattle.plans.specs.Tied.{groupsIn, groupsAt, caseOf, Groups}
+use Rattle.plans.specs.Tied.{groupsIn, caseOf, Groups}
 use Rattle.triplets.specs.Judged.{GoodRow}
 use Rattle.descriptors.specs.Holds.{EndsAt, no-head, no-CPT}
 

@@ -1,20 +1,20 @@
 -- The steps over an SDA, an RLO and a CPT, from what judging them gave.
 -- Assumes nothing.
-use mathlib.Core.Path.{_≡_, refl, sym, ap, _∙_, subst}
+use mathlib.Core.Path.{_≡_, refl, sym, _∙_}
 use mathlib.Core.Logic.{_≢_}
 use Prim.Native.Nat.{ℕ, _≤_, _<_}
 use native.Mathlib.Omega.{arith}
-use mathlib.Core.Bool.{Bool, true, false, true≢false}
+use mathlib.Core.Bool.{true, false, true≢false}
 use mathlib.Core.List.{List}
 use lib.ListN.{length, getD}
 use borrow.Author.Tests.{eq-eqb, ne-eqb}
 use Rattle.fdoca.specs.Basics.{product, Result, refuse, ok}
-use Rattle.fdoca.specs.Triplet.{idOf, codeOf, extentsOf}
+use Rattle.fdoca.specs.Triplet.{codeOf, extentsOf}
 use Rattle.fdoca.specs.Check.{goodLengthSDA, goodSDA}
 use Rattle.field_types.specs.Parameters.{layoutNumber}
 use Rattle.triplets.specs.declared.Sum.{Sum}
 use Rattle.triplets.specs.declared.Judged.{Judged}
-use Rattle.triplets.specs.Judged.{outcome, Agrees, JudgedSDA, JudgedRLO, JudgedCPT, GoodRow}
+use Rattle.triplets.specs.Judged.{outcome, JudgedSDA, JudgedRLO, JudgedCPT}
 use Rattle.triplets.specs.Kept.{PutSDA}
 use Rattle.triplets.proofs.Sda.{at-least-12}
 use Rattle.descriptors.specs.declared.Step.{Step}

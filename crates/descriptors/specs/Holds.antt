@@ -2,13 +2,13 @@
 use Prim.Native.Nat.{ℕ, _+_, _-_, _≤_, _<_}
 use mathlib.Core.Path.{_≡_}
 use mathlib.Core.Logic.{_≢_}
-use mathlib.Core.Bool.{Bool, true, false}
+use mathlib.Core.Bool.{true, false}
 use mathlib.Core.List.{List, [], _∷_, _++_}
 use mathlib.Core.Option.{Option, none, some}
-use lib.ListN.{length, getD, set, drop}
+use lib.ListN.{length, getD, drop}
 use Rattle.fdoca.specs.declared.Checked.{Checked}
-use Rattle.fdoca.specs.Basics.{product, lookup, Result, refuse, ok}
-use Rattle.fdoca.specs.Triplet.{Triplet, triplets, Group, idOf, extentsOf}
+use Rattle.fdoca.specs.Basics.{product, lookup, refuse, ok}
+use Rattle.fdoca.specs.Triplet.{triplets, Group, idOf, extentsOf}
 use Rattle.fdoca.specs.Item.{Field}
 use Rattle.fdoca.specs.Check.{Entry, goodSDA, checkSDA, checkRLO, checkCPT, checkTriplets, begin, check}
 use Rattle.fdoca.specs.Calls.{checked}

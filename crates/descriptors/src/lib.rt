@@ -1,12 +1,11 @@
 // The check of a descriptor, triplet by triplet from left to right.
 ghost use mathlib.Core.Path.{_≡_};
-ghost use Prim.Native.Nat.{ℕ, _+_, _-_, _*_, _≤_, _<_};
+ghost use Prim.Native.Nat.{_+_, _-_, _≤_, _<_};
 ghost use mathlib.Core.Bool.{true, false};
-ghost use mathlib.Core.List.{List};
-ghost use lib.ListN.{length, getD, set, replicate};
+ghost use lib.ListN.{length, set, replicate};
 ghost use Rattle.fdoca.specs.Basics.{refuse};
 ghost use Rattle.fdoca.specs.Triplet.{triplets};
-ghost use Rattle.fdoca.specs.Check.{check, checkTriplets, begin};
+ghost use Rattle.fdoca.specs.Check.{check};
 ghost use Rattle.fdoca.specs.Calls.{checked};
 ghost use Rattle.descriptors.specs.Holds.{MakesSame, Held, ClosedRow, SteppedSDA, SteppedRLO, SteppedCPT, Advanced, Bare, Examination};
 use fdoca::Checked;

@@ -2,17 +2,17 @@
 -- them; there is one way only to cut them so.
 -- Assumes nothing.
 use mathlib.Core.Path.{_≡_, refl, sym, ap, _∙_, subst}
-use Prim.Native.Nat.{ℕ, suc, _+_, _<_, _≤_}
+use Prim.Native.Nat.{ℕ, _+_}
 use native.Mathlib.Omega.{arith}
-use mathlib.Core.Bool.{Bool, true, false}
+use mathlib.Core.Bool.{Bool}
 use mathlib.Core.List.{List, [], _∷_, _++_, append-assoc}
 use lib.Dec.{ltb}
 use lib.ListN.{length, take, drop, length-append}
 use lib.Seq.{take-at, drop-at, drop-drop}
-use borrow.Author.Tests.{ltb-false, le-ltb}
-use Rattle.fdoca.specs.Basics.{Result, refuse, ok, _>>=_, _>>_, reject}
+use borrow.Author.Tests.{ltb-false}
+use Rattle.fdoca.specs.Basics.{Result, ok, _>>=_, _>>_}
 use Rattle.fdoca.specs.Item.{Field, Measured, refused, item, measure}
-use Rattle.fdoca.specs.Account.{Item, Parts, Begins, Block, done, next}
+use Rattle.fdoca.specs.Account.{Parts, Begins, Block, done, next}
 use Rattle.fdoca.specs.Walk.{Note, itemLength, Cut, noteOf, with, cutFrom, walk}
 use Rattle.fdoca.proofs.Account.{sizes, measure-sound, measure-complete}
 use Rattle.fdoca.proofs.Results.{IfOk, none-owed, holds, bind-all, reject-all, ok-of}

@@ -3,17 +3,17 @@
 use mathlib.Core.Path.{_≡_, refl, sym, ap, _∙_}
 use Prim.Native.Nat.{ℕ, _+_, _*_, _≤_}
 use native.Mathlib.Omega.{arith}
-use mathlib.Core.List.{List, [], _∷_, _++_, map, append-assoc}
+use mathlib.Core.List.{List, _∷_, _++_, map, append-assoc}
 use lib.Dec.{ltb}
 use lib.ListN.{length, drop, length-map, length-append, length-drop}
 use lib.Seq.{drop-at}
 use borrow.Author.Tests.{ltb-false}
-use Rattle.fdoca.specs.Basics.{Result, refuse, ok, _>>=_, _>>_, reject}
+use Rattle.fdoca.specs.Basics.{refuse, ok, _>>=_, _>>_}
 use Rattle.fdoca.specs.Check.{check}
 use Rattle.fdoca.specs.Unfolding.{unfolded}
 use Rattle.fdoca.specs.Walk.{Note, walk}
 use Rattle.fdoca.specs.Calls.{oversize, itemList, list, entriesAfter}
-use Rattle.fdoca.proofs.Results.{IfOk, none-owed, holds, bind-all, reject-all, ok-of, itself}
+use Rattle.fdoca.proofs.Results.{IfOk, holds, bind-all, reject-all, ok-of, itself}
 use Rattle.fdoca.proofs.Count.{count-is-length}
 use Rattle.fdoca.proofs.Cover.{walk-covers}
 

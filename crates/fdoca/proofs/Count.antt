@@ -1,17 +1,17 @@
 -- The count that the check gives of an accepted descriptor is the length of its unfolding.
 -- The check's state is at every triplet the image of the unfolding's: extents for fields with extents, counts for lists.
 -- Assumes nothing.
-use mathlib.Core.Path.{_≡_, refl, sym, ap, _∙_, subst}
-use Prim.Native.Nat.{ℕ, zero, suc, _+_, _-_, _*_, _≤_}
+use mathlib.Core.Path.{_≡_, refl, sym, ap, _∙_}
+use Prim.Native.Nat.{ℕ, zero, suc, _+_, _*_}
 use native.Mathlib.Omega.{arith}
-use native.Mathlib.Nat.{suc-mul, zero-mul}
+use native.Mathlib.Nat.{zero-mul}
 use mathlib.Core.Bool.{Bool, true, false, not, _&&_, true≢false}
-use mathlib.Core.List.{List, [], _∷_, _++_, map}
+use mathlib.Core.List.{List, [], _∷_, _++_}
 use mathlib.Core.Option.{Option, none, some}
-use lib.Dec.{leb, ltb, eqb}
-use lib.ListN.{length, replicate, length-append, length-replicate}
-use Rattle.fdoca.specs.Basics.{if_then_else_, elem, lookup, repeat, product, Result, refuse, ok, _>>=_, _>>_, reject, the}
-use Rattle.fdoca.specs.Triplet.{Triplet, torn, triplet, triplets, Construct, SDA, RLO, ISD, CPT, constructOf, idOf, codeOf, parametersOf, extentsOf, Group, groupsOf}
+use lib.Dec.{ltb, eqb}
+use lib.ListN.{length, length-append, length-replicate}
+use Rattle.fdoca.specs.Basics.{if_then_else_, elem, lookup, repeat, product, ok, _>>=_, _>>_}
+use Rattle.fdoca.specs.Triplet.{Triplet, torn, triplet, triplets, Construct, SDA, RLO, ISD, CPT, constructOf, idOf, codeOf, extentsOf, Group, groupsOf}
 use Rattle.fdoca.specs.FieldType.{FieldType, typeOf}
 use Rattle.fdoca.specs.Item.{Field}
 use Rattle.fdoca.proofs.Results.{IfOk, none-owed, holds, bind-all, the-all, reject-all, ok-of}

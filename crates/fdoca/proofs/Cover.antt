@@ -1,8 +1,8 @@
 -- The items of a walk: those of fs ++ gs are those of fs and then those of gs. Where the walk accepts they are the fields' in order, laid end to end
 -- over the whole data, so that each byte lies in just one item.
 -- Assumes nothing.
-use mathlib.Core.Path.{_≡_, refl, sym, ap, _∙_, subst}
-use Prim.Native.Nat.{ℕ, zero, suc, _+_, _-_, _≤_, _<_}
+use mathlib.Core.Path.{_≡_, refl, ap, _∙_}
+use Prim.Native.Nat.{ℕ, zero, suc, _+_, _≤_, _<_}
 use native.Mathlib.Omega.{arith}
 use mathlib.Core.Bool.{Bool, true, false}
 use mathlib.Core.List.{List, [], _∷_, _++_, map}
@@ -11,7 +11,7 @@ use lib.Dec.{ltb}
 use lib.ListN.{length, drop, getD, getElem?, length-drop, length-map}
 use lib.Seq.{drop-drop}
 use borrow.Author.Tests.{ltb-true, ltb-false}
-use Rattle.fdoca.specs.Basics.{Result, refuse, ok, _>>=_, _>>_, reject}
+use Rattle.fdoca.specs.Basics.{Result, refuse, ok, _>>=_, _>>_}
 use Rattle.fdoca.specs.Item.{Field, Measured, refused, item, measure}
 use Rattle.fdoca.specs.Walk.{Note, itemLength, Cut, noteOf, with, cutFrom, walk}
 use Rattle.fdoca.proofs.Within.{Within, within}

@@ -3,29 +3,28 @@
 -- Demand 2: a block is accepted exactly when its bytes are the items of the unfolding by the standard's account, and it is read as that account says.
 -- Demand 3: what the walk says is what the list and the states say; the count is the descriptor's alone; the items cover the block.
 -- Assumes nothing.
-use mathlib.Core.Path.{_≡_, refl, sym, ap, _∙_, subst}
-use mathlib.Core.Logic.{_↔_}
+use mathlib.Core.Path.{_≡_, refl, sym, ap, _∙_}
 use Prim.Native.Nat.{ℕ, zero, suc, _+_, _*_, _≤_, _<_}
 use native.Mathlib.Omega.{arith}
 use mathlib.Core.Bool.{Bool, true, false, _||_}
 use mathlib.Core.List.{List, [], _∷_, _++_, map}
-use mathlib.Core.Option.{Option, none, some}
+use mathlib.Core.Option.{none, some}
 use lib.Dec.{ltb}
-use lib.IntN.{ℤ, pos}
-use lib.ListN.{length, take, drop, getElem?}
+use lib.IntN.{pos}
+use lib.ListN.{length, drop, getElem?}
 use lib.Seq.{drop-at, take-at, drop-drop}
-use borrow.Author.Tests.{ltb-true, ltb-false, lt-ltb, le-ltb}
+use borrow.Author.Tests.{ltb-true, ltb-false, le-ltb}
 use Rattle.fdoca.specs.Basics.{if_then_else_, Result, refuse, ok, _>>=_, _>>_, reject, the}
-use Rattle.fdoca.specs.Triplet.{Triplet, triplets}
+use Rattle.fdoca.specs.Triplet.{Triplet}
 use Rattle.fdoca.specs.Item.{Field}
 use Rattle.fdoca.specs.Walk.{Note, itemLength, walk}
-use Rattle.fdoca.specs.Check.{State, maxDescriptor, checkTriplet, checkTriplets, begin, check}
+use Rattle.fdoca.specs.Check.{State, maxDescriptor, checkTriplet, checkTriplets, check}
 use Rattle.fdoca.specs.Unfolding.{unfolded}
-use Rattle.fdoca.specs.Account.{Item, Parts, Block, done, next}
-use Rattle.fdoca.specs.Calls.{maxData, oversize, itemList, list, itemAt, valueOf, wholeOf, wholeNumber, listed, entriesAfter, stateOf, lent}
+use Rattle.fdoca.specs.Account.{Parts, Block, done, next}
+use Rattle.fdoca.specs.Calls.{maxData, oversize, itemList, list, itemAt, valueOf, wholeOf, wholeNumber, entriesAfter, stateOf, lent}
 use Rattle.fdoca.proofs.Count.{count-is-length}
 use Rattle.fdoca.proofs.Limits.{at-most-4096}
-use Rattle.fdoca.proofs.Cover.{sum, positions, lengths, Walked, walk-covers, InItem, in-an-item, in-one-item}
+use Rattle.fdoca.proofs.Cover.{sum, positions, lengths, walk-covers, InItem, in-an-item, in-one-item}
 use Rattle.fdoca.proofs.Stops.{Stopped, walk-stops}
 use Rattle.fdoca.proofs.Blocks.{noteOfParts, notesOf, behind, walk-complete, walk-sound}
 use Rattle.fdoca.proofs.Calls.{items-noted}

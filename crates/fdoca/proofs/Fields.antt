@@ -5,19 +5,19 @@ use mathlib.Core.Path.{_≡_, refl, sym, ap, _∙_}
 use Prim.Native.Nat.{ℕ, zero, suc, _+_, _*_, _≤_}
 use native.Mathlib.Omega.{arith}
 use mathlib.Core.Bool.{Bool, true, false, not, _&&_, true≢false}
-use mathlib.Core.List.{List, [], _∷_, _++_, map}
+use mathlib.Core.List.{List, [], _∷_, _++_}
 use mathlib.Core.Option.{Option, none, some}
 use lib.Dec.{leb, ltb, eqb}
 use lib.ListN.{length, drop, replicate, getD, getElem?}
-use Rattle.fdoca.specs.Basics.{if_then_else_, elem, lookup, repeat, product, Result, refuse, ok, _>>=_, _>>_, reject, the}
+use Rattle.fdoca.specs.Basics.{if_then_else_, elem, lookup, repeat, product, ok, _>>=_, _>>_, the}
 use Rattle.fdoca.specs.FieldType.{FieldType, Layout, fixed, counted, terminated, Rule, allows, typeOf, ruleOf, nullable}
 use Rattle.fdoca.specs.Triplet.{Triplet, torn, triplet, triplets, Construct, SDA, RLO, ISD, CPT, constructOf, idOf, codeOf, parametersOf, modeOf, biasOf, lengthOf, extentsOf, Group, groupsOf}
 use Rattle.fdoca.specs.Item.{Field, Measured, refused, item, indicated, measureFixed, measureValue, measureNullable, measureItem, measure}
-use Rattle.fdoca.specs.Walk.{Note, itemLength, Cut, noteOf, with, cutFrom, walk}
+use Rattle.fdoca.specs.Walk.{Note, itemLength, noteOf, with, cutFrom, walk}
 use Rattle.fdoca.specs.Calls.{oversize, itemAt}
 use Rattle.fdoca.specs.Check as C
 use Rattle.fdoca.specs.Unfolding.{Described, array, row, fieldsOf, fieldsTaken, fieldsReferred, groupFields, addFields, fieldOf, Layouts, closeRow, closed, unfoldSDA, unfoldRLO, unfoldCPT, unfoldConstruct, unfoldTriplet, unfoldTriplets, start, lastFields, unfolded}
-use Rattle.fdoca.proofs.Results.{IfOk, none-owed, holds, bind-all, the-all, reject-all, ok-of, both-all, always}
+use Rattle.fdoca.proofs.Results.{IfOk, none-owed, holds, bind-all, reject-all, ok-of, both-all, always}
 use Rattle.fdoca.proofs.Tests.{by-test, by-le, and-left, and-right}
 use Rattle.fdoca.proofs.Count.{entries, state, closed-state, check-triplet}
 

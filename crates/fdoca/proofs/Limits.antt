@@ -1,17 +1,17 @@
 -- An accepted descriptor describes at most 4,096 items.
 -- Assumes nothing.
-use mathlib.Core.Path.{_≡_, refl, sym, ap, _∙_}
-use Prim.Native.Nat.{ℕ, zero, suc, _+_, _-_, _*_, _≤_, _<_}
+use mathlib.Core.Path.{_≡_, refl}
+use Prim.Native.Nat.{ℕ, _+_, _*_, _≤_}
 use native.Mathlib.Omega.{arith}
-use mathlib.Core.Bool.{Bool, true, false, not}
+use mathlib.Core.Bool.{not}
 use mathlib.Core.List.{List, [], _∷_}
 use mathlib.Core.Option.{Option, none, some}
-use lib.Dec.{leb, ltb, eqb}
+use lib.Dec.{ltb, eqb}
 use lib.ListN.{length}
 use borrow.Author.Tests.{ltb-false}
-use Rattle.fdoca.specs.Basics.{product, lookup, Result, refuse, ok, _>>=_, _>>_, reject, the}
+use Rattle.fdoca.specs.Basics.{product, lookup, ok, _>>=_, _>>_}
 use Rattle.fdoca.specs.Triplet.{Triplet, torn, triplet, triplets, Construct, SDA, RLO, ISD, CPT, constructOf, idOf, extentsOf, Group, groupsOf}
-use Rattle.fdoca.specs.Check.{Entry, array, row, State, closeRow, closed, countOf, countTaken, isDescribed, maxItems, maxDescriptor, addGroup, addGroups, goodLengthSDA, goodSDA, goodLengthRow, goodLengthISD, goodISD, checkSDA, checkRLO, checkCPT, checkISD, checkConstruct, checkTriplet, checkTriplets, begin, lastCount, check}
+use Rattle.fdoca.specs.Check.{Entry, array, State, closeRow, closed, countOf, countTaken, isDescribed, maxItems, maxDescriptor, addGroup, addGroups, goodLengthSDA, goodSDA, goodLengthRow, goodLengthISD, goodISD, checkSDA, checkRLO, checkCPT, checkISD, checkConstruct, checkTriplet, checkTriplets, begin, lastCount, check}
 use Rattle.fdoca.proofs.Results.{IfOk, none-owed, holds, bind-all, the-all, reject-all, ok-of}
 
 abbrev Bounded : List (ℕ × Entry) → Type 0

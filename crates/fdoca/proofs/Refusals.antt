@@ -1,18 +1,18 @@
 -- Measuring refuses bytes exactly for the first reason in document 01's order, with its number.
 -- Assumes nothing.
-use mathlib.Core.Path.{_≡_, refl, sym, ap, _∙_, subst}
+use mathlib.Core.Path.{_≡_, refl, _∙_}
 use mathlib.Core.Logic.{_≢_, _↔_}
 use Prim.Native.Nat.{ℕ, zero, suc, _+_, _-_, _*_, _≤_, _<_, min}
 use native.Mathlib.Omega.{arith}
 use mathlib.Core.Bool.{Bool, true, false}
-use mathlib.Core.List.{List, [], _∷_, _++_}
-use lib.Dec.{leb, ltb, eqb}
+use mathlib.Core.List.{List, [], _∷_}
+use lib.Dec.{eqb}
 use lib.ListN.{length, take}
 use lib.Seq.{take-all, take-take}
-use borrow.Author.Tests.{ltb-true, ltb-false, leb-true, leb-false, eqb-true, eqb-false, lt-ltb, le-ltb, le-leb, lt-leb, eq-eqb, ne-eqb}
-use Rattle.fdoca.specs.Basics.{if_then_else_, big}
-use Rattle.fdoca.specs.FieldType.{FieldType, fixedBytes, variableBytes, terminatedBytes, shortBytes, integer, reversedInteger, hexFloat, reversedFloat, binaryFloat, LengthField, signedTwo, unsignedOne, Layout, fixed, counted, terminated, ruleOf, nullable}
-use Rattle.fdoca.specs.Item.{Field, Measured, refused, item, Space, unbounded, limited, reserved, space, width, isNegative, isOver, unused, indicated, beforeZero, measureFixed, measureBody, measureCounted, measureTerminated, measureValue, measureNullable, measureItem, measure}
+use borrow.Author.Tests.{ltb-true, ltb-false, leb-true, leb-false, eqb-true, eqb-false, lt-ltb, le-ltb, le-leb, lt-leb, ne-eqb}
+use Rattle.fdoca.specs.Basics.{if_then_else_}
+use Rattle.fdoca.specs.FieldType.{FieldType, fixedBytes, variableBytes, terminatedBytes, shortBytes, integer, reversedInteger, hexFloat, reversedFloat, binaryFloat, LengthField, signedTwo, unsignedOne, ruleOf}
+use Rattle.fdoca.specs.Item.{Field, Measured, refused, item, Space, unbounded, limited, reserved, space, isNegative, isOver, unused, indicated, beforeZero, measureFixed, measureBody, measureCounted, measureTerminated, measureValue, measureNullable, measureItem, measure}
 use Rattle.fdoca.specs.Account.{FixedLength, string, binary, binary-reversed, hex-float, float-reversed, float, NonZero, none-left, one-more, ShortBody, no-limit, value-only, all-sent, NoValue, short, short-two, negative, over-two, body-two, short-one, over-one, body-one, no-end, no-end-yet, short-space, endless, NoItem, plain, no-indicator, behind}
 use Rattle.fdoca.proofs.Tests.{by-test, by-le, by-lt}
 use Rattle.fdoca.proofs.Account.{big-one, big-two, fixed-layout, space-none, space-limit, space-full, zero-at}

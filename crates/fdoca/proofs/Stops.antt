@@ -1,8 +1,8 @@
 -- Where the walk stops: exactly at the first item that the data cuts short or spoils, or at the bytes that are left.
 -- Assumes nothing.
-use mathlib.Core.Path.{_≡_, refl, sym, ap, _∙_}
+use mathlib.Core.Path.{_≡_, refl, ap}
 use mathlib.Core.Logic.{_↔_}
-use Prim.Native.Nat.{ℕ, suc, _+_, _≤_, _<_}
+use Prim.Native.Nat.{ℕ, _+_, _≤_, _<_}
 use native.Mathlib.Omega.{arith}
 use mathlib.Core.Bool.{Bool, true, false}
 use mathlib.Core.List.{List, [], _∷_, _++_}
@@ -15,7 +15,7 @@ use Rattle.fdoca.specs.FieldType.{FieldType}
 use Rattle.fdoca.specs.Account.{NoValue, short, short-two, negative, over-two, body-two, short-one, over-one, body-one, no-end, no-end-yet, short-space, endless, NoItem, plain, no-indicator, behind}
 use Rattle.fdoca.specs.Walk.{Note, itemLength, Cut, noteOf, with, cutFrom, walk}
 use Rattle.fdoca.proofs.Refusals.{refused-iff}
-use Rattle.fdoca.proofs.Cover.{joined, cut-append}
+use Rattle.fdoca.proofs.Cover.{cut-append}
 
 -- The cut of fs from s at p stops with the number n at the place q: the items of the fields before are good, and the next bytes are no item.
 pub record StopsAt (p : ℕ) (fs : List Field) (s : List ℕ) (n q : ℕ) : Type 0 where

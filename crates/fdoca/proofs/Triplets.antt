@@ -3,14 +3,13 @@
 use mathlib.Core.Path.{_≡_, refl, sym, ap, _∙_}
 use Prim.Native.Nat.{ℕ, zero, suc, _+_, _-_, _≤_, _<_}
 use native.Mathlib.Omega.{arith}
-use mathlib.Core.Bool.{Bool, true, false, _||_}
+use mathlib.Core.Bool.{true, false, _||_}
 use mathlib.Core.List.{List, [], _∷_}
 use lib.Dec.{ltb}
 use lib.ListN.{length, take, drop, getD, length-drop}
 use lib.Seq.{drop-cons, drop-drop}
 use borrow.Author.Tests.{lt-ltb, le-ltb}
-use Rattle.fdoca.specs.Basics.{if_then_else_}
-use Rattle.fdoca.specs.Triplet.{Triplet, torn, triplet, tripletsFrom, triplets}
+use Rattle.fdoca.specs.Triplet.{Triplet, torn, triplet, tripletsFrom}
 
 -- Fuel beyond the number of bytes changes nothing.
 pub fuel : (m n p : ℕ) (s : List ℕ) → length s ≤ m → length s ≤ n → tripletsFrom m p s ≡ tripletsFrom n p s

@@ -5,7 +5,7 @@ use mathlib.Core.List.{List, [], _∷_}
 use lib.Dec.{leb, ltb, eqb}
 use lib.ListN.{length, take}
 use Rattle.fdoca.specs.Basics.{if_then_else_, big}
-use Rattle.fdoca.specs.FieldType.{FieldType, LengthField, signedTwo, unsignedOne, Layout, fixed, counted, terminated, Rule, ruleOf, nullable}
+use Rattle.fdoca.specs.FieldType.{FieldType, LengthField, signedTwo, unsignedOne, Layout, fixed, counted, terminated, ruleOf, nullable}
 
 -- A field ("Unfolding and walk"): an SDA's id, its type code with the type that it stands for, and the parameters that hold for it.
 pub record Field : Type 0 where

@@ -1,8 +1,8 @@
 -- A descriptor's triplets and their parts (document 01, "Triplets"; 000, section 4.3).
 use Prim.Native.Nat.{ℕ, zero, suc, _+_}
-use mathlib.Core.Bool.{Bool, true, false, _||_}
+use mathlib.Core.Bool.{_||_}
 use mathlib.Core.List.{List, [], _∷_}
-use mathlib.Core.Option.{Option, none, some}
+use mathlib.Core.Option.{Option}
 use lib.Dec.{ltb}
 use lib.ListN.{length, take, drop, getD}
 use Rattle.fdoca.specs.Basics.{if_then_else_, big, lookup}

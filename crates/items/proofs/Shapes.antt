@@ -7,20 +7,18 @@ use mathlib.Core.List.{List, [], _∷_}
 use native.Mathlib.Omega.{arith}
 use lib.Dec.{leb, eqb}
 use lib.ListN.{length, getD, take, drop}
-use borrow.Author.Tests.{eq-eqb, ne-eqb}
+use borrow.Author.Tests.{ne-eqb}
 use Rattle.fdoca.specs.Basics.{if_then_else_, big}
 use Rattle.fdoca.specs.FieldType.{Layout, fixed, counted, terminated, signedTwo, unsignedOne}
-use Rattle.fdoca.specs.Item.{refused, item, width, beforeZero, measureValue, measureItem}
+use Rattle.fdoca.specs.Item.{refused, item, measureValue, measureItem}
 use Rattle.fdoca.specs.Item as defined
-use Rattle.fdoca.proofs.Tests.{by-test}
 use Rattle.fdoca.proofs.Outcomes.{widthOf, valueLength, of-layout}
 use Rattle.field_types.specs.Rows.{layoutOf}
 use Rattle.field_types.proofs.Pairs.{two-at}
 use Rattle.items.specs.declared.Measured.{Measured}
-use Rattle.items.specs.declared.Parts.{Parts}
 use Rattle.items.specs.Answer.{answer, measureIndicator}
 use Rattle.items.specs.Known.{Good, PartsOf}
-use Rattle.items.proofs.Ways.{rest, moved, told, by-indicator, one-byte}
+use Rattle.items.proofs.Ways.{rest, moved, by-indicator, one-byte}
 
 -- a value that is measured has no null mark, its length field and the length that this tells
 record Shape (l : Layout) (F : ℕ) (s : List ℕ) (z : Bool) (p v : ℕ) : Type 0 where

@@ -10,8 +10,6 @@ use native.Mathlib.Omega.{arith}
 use lib.Dec.{leb, eqb, lit≤}
 use lib.ListN.{length, getD, take, drop, length-take, length-drop, drop-of-length-le}
 use lib.Seq.{take-all, length-take-le}
-use mir.Syntax.{w64}
-use mir.Val.{Fits}
 use borrow.Author.Tests.{lt-ltb, le-ltb, le-leb, lt-leb, eq-eqb, ne-eqb, not-true, not-false}
 use Rattle.fdoca.specs.Basics.{if_then_else_, big}
 use Rattle.fdoca.specs.FieldType.{LengthField, signedTwo, unsignedOne, Layout}
@@ -19,7 +17,7 @@ use Rattle.fdoca.specs.Item.{refused, item, Space, unbounded, limited, reserved
 use Rattle.fdoca.specs.Item as defined
 use Rattle.items.specs.declared.Measured.{Measured}
 use Rattle.items.specs.Answer.{answer, measureSent, measureRanged, measureIndicator, movedBy}
-use Rattle.items.proofs.Inside.{Numbered, numbered-value, is-item, is-refused, is-within}
+use Rattle.items.proofs.Inside.{Numbered, numbered-value, is-item, is-within}
 use Rattle.fdoca.proofs.Tests.{by-test}
 use Rattle.fdoca.proofs.Within.{Within, within-value}
 use Rattle.items.proofs.Scan.{zero-among}

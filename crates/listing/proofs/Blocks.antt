@@ -5,22 +5,18 @@ use Prim.Native.Nat.{ℕ, _≤_}
 use native.Mathlib.Omega.{arith}
 use mathlib.Core.List.{List, map}
 use lib.ListN.{length, take, replicate, length-map, length-replicate}
-use lib.Seq.{sets, length-sets, take-all, length-take-le}
+use lib.Seq.{sets, length-take-le}
 use borrow.Author.Tests.{le-ltb}
-use Rattle.fdoca.specs.declared.Checked.{Checked}
 use Rattle.fdoca.specs.Basics.{Result, refuse, ok}
 use Rattle.fdoca.specs.Item.{Field}
 use Rattle.fdoca.specs.Walk.{Note, walk}
 use Rattle.fdoca.specs.Unfolding.{unfolded}
 use Rattle.fdoca.specs.Dump.{refusedLine, itemLines, textOf, blockNotes}
-use Rattle.fdoca.specs.Check.{check}
-use Rattle.fdoca.specs.Calls.{checked}
 use Rattle.fdoca.proofs.Stops.{walk-number}
 use Rattle.plans.specs.Plan.{entryOf, Planned}
 use Rattle.plans.specs.Tied.{listOf}
-use Rattle.plans.proofs.Fields.{planned, first-numbers}
 use Rattle.descriptors.specs.declared.Examined.{Examined}
-use Rattle.descriptors.specs.Holds.{Ready, told, Examination}
+use Rattle.descriptors.specs.Holds.{Ready, Examination}
 use Rattle.walks.specs.declared.Stop.{Stop}
 use Rattle.descriptors.proofs.Callers.{for-unfolding, refused-by}
 use Rattle.walks.specs.Marks.{markOf, stopOf, Marked, Noted}

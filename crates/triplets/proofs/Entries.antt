@@ -7,28 +7,26 @@ use native.Mathlib.Nat.{mul-one, zero-mul, mul-le-mul-right}
 use mathlib.Core.Bool.{Bool, true, false, not, _&&_}
 use mathlib.Core.List.{List, [], _∷_}
 use mathlib.Core.Option.{Option, none, some}
-use lib.Dec.{ltb, eqb}
+use lib.Dec.{eqb}
 use lib.ListN.{length, getD, set, take, drop, length-drop}
 use lib.Seq.{getD-take, getD-drop, drop-drop, take-add, drop-at, length-take-le}
-use borrow.Author.Tests.{ltb-true, eqb-false, lt-ltb}
+use borrow.Author.Tests.{ltb-true, eqb-false}
 use mir.Syntax.{w32, w64}
 use mir.Val.{Fits}
 use Rattle.fdoca.specs.Basics.{elem, big, product}
 use Rattle.fdoca.specs.FieldType.{FieldType, typeOf, ruleOf}
 use Rattle.fdoca.specs.Triplet.{idOf, codeOf, parametersOf, modeOf, lengthOf, extentsOf}
-use Rattle.fdoca.specs.Item.{Field}
 use Rattle.fdoca.specs.Check.{goodLengthSDA, goodType, goodSDA}
-use Rattle.fdoca.specs.Unfolding.{fieldOf}
 use Rattle.fdoca.proofs.Tests.{and-left, and-right}
 use Rattle.fdoca.proofs.Account.{big-two}
 use Rattle.field_types.specs.Rows.{prefixOf, ruleFor}
 use Rattle.field_types.specs.Parameters.{layoutNumber}
 use Rattle.field_types.proofs.Pairs.{two-at}
-use Rattle.plans.specs.Plan.{entryOf, Proper}
+use Rattle.plans.specs.Plan.{entryOf}
 use Rattle.plans.specs.Tied.{lowerOf}
 use Rattle.triplets.specs.Judged.{extentOr1}
 use Rattle.triplets.specs.Kept.{EntryOf, PutSDA}
-use Rattle.triplets.proofs.Sda.{FourLengths, none-left, one-left, two-left, three-left, four-lengths, at-least-12, extents-next, extents-end, left-out, no-zero}
+use Rattle.triplets.proofs.Sda.{FourLengths, none-left, one-left, two-left, three-left, four-lengths, extents-next, extents-end, left-out, no-zero}
 
 -- the parts of a good SDA
 module _ (t : List ℕ) (h : goodSDA t ≡ true) where

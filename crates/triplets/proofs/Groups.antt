@@ -1,23 +1,20 @@
 -- The groups of a triplet, one after the other.
 -- Assumes nothing.
-use mathlib.Core.Path.{_≡_, refl, sym, ap, _∙_}
-use mathlib.Core.Logic.{_≢_}
-use Prim.Native.Nat.{ℕ, zero, suc, _+_, _-_, _*_, _%_, _≤_, _<_}
+use mathlib.Core.Path.{_≡_, refl, _∙_}
+use Prim.Native.Nat.{ℕ, suc, _+_, _-_, _%_, _≤_, _<_}
 use native.Mathlib.Omega.{arith}
-use native.Mathlib.Numerals.{add-one}
 use mathlib.Core.Bool.{Bool, true, false, _&&_}
-use mathlib.Core.List.{List, [], _∷_}
-use mathlib.Core.Option.{Option, none, some}
+use mathlib.Core.List.{List, _∷_}
 use lib.Dec.{leb, eqb}
 use lib.ListN.{length, getD, drop, drop-of-length-le}
 use lib.Seq.{drop-cons}
 use borrow.Author.Tests.{eq-eqb, ne-eqb, leb-true, eqb-true}
-use Rattle.fdoca.specs.Basics.{if_then_else_, lookup, Result, refuse, ok, _>>=_}
-use Rattle.fdoca.specs.Triplet.{Group, threes, groupsOf}
+use Rattle.fdoca.specs.Basics.{lookup, _>>=_}
+use Rattle.fdoca.specs.Triplet.{threes, groupsOf}
 use Rattle.fdoca.specs.Check.{Entry, addGroup, addGroups, goodLengthRow}
 use Rattle.triplets.specs.declared.Sum.{Sum}
-use Rattle.triplets.specs.Judged.{outcome, KeptAs, Agrees, groupOf, GoodRow, AddedGroup, AddedGroups}
-use Rattle.triplets.proofs.Outcomes.{refused-outcome, found-outcome}
+use Rattle.triplets.specs.Judged.{outcome, Agrees, groupOf, GoodRow, AddedGroup, AddedGroups}
+use Rattle.triplets.proofs.Outcomes.{found-outcome}
 
 pub whole-groups : (t : List ℕ) → goodLengthRow t ≡ true → GoodRow t
 whole-groups t = go (leb 6 (length t)) (eqb (length t % 3) 0) refl refl

@@ -1,18 +1,18 @@
 -- The ways through judging an ISD.
 -- Assumes nothing.
-use mathlib.Core.Path.{_≡_, refl, sym, ap, _∙_}
-use Prim.Native.Nat.{ℕ, zero, suc, _+_, _≤_, _<_}
+use mathlib.Core.Path.{_≡_, refl, sym, ap}
+use Prim.Native.Nat.{ℕ, zero, suc, _≤_, _<_}
 use native.Mathlib.Omega.{arith}
-use mathlib.Core.Bool.{Bool, true, false, not, _&&_}
+use mathlib.Core.Bool.{Bool, true, false}
 use mathlib.Core.List.{List, [], _∷_}
 use lib.Dec.{eqb}
 use lib.ListN.{length, getD, List·getD-eq-default}
 use borrow.Author.Tests.{eq-eqb, ne-eqb, eqb-true}
 use Rattle.fdoca.specs.Basics.{if_then_else_, elem, big}
 use Rattle.fdoca.specs.Triplet.{subsetOf, versionOf}
-use Rattle.fdoca.specs.Check.{State, goodLengthISD, goodISD, checkISD}
+use Rattle.fdoca.specs.Check.{goodLengthISD, goodISD, checkISD}
 use Rattle.field_types.proofs.Pairs.{two-at}
-use Rattle.triplets.specs.Judged.{outcome, JudgedISD}
+use Rattle.triplets.specs.Judged.{JudgedISD}
 use Rattle.triplets.proofs.Outcomes.{refused-outcome, found-outcome}
 
 -- LENGTH is 5 or 6

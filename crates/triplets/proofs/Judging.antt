@@ -1,20 +1,18 @@
 -- The ways through judging an RLO and a CPT.
 -- Assumes nothing.
-use mathlib.Core.Path.{_≡_, refl, sym, ap, _∙_}
-use mathlib.Core.Logic.{_≢_}
-use Prim.Native.Nat.{ℕ, _≤_, _<_}
+use mathlib.Core.Path.{_≡_, refl, sym, _∙_}
+use Prim.Native.Nat.{ℕ, _<_}
 use native.Mathlib.Omega.{arith}
-use mathlib.Core.Bool.{Bool, true, false, not}
+use mathlib.Core.Bool.{Bool, true, false}
 use mathlib.Core.List.{List}
-use mathlib.Core.Option.{Option, none, some}
 use lib.Dec.{eqb}
 use lib.ListN.{length, getD}
 use borrow.Author.Tests.{eq-eqb, ne-eqb}
-use Rattle.fdoca.specs.Basics.{if_then_else_, Result, refuse, ok, _>>=_, _>>_, reject, the}
+use Rattle.fdoca.specs.Basics.{if_then_else_, refuse, ok, _>>=_, _>>_}
 use Rattle.fdoca.specs.Triplet.{idOf, groupsOf}
-use Rattle.fdoca.specs.Check.{Entry, State, isDescribed, addGroups, goodLengthRow, checkRLO, checkCPT}
+use Rattle.fdoca.specs.Check.{isDescribed, goodLengthRow, checkRLO, checkCPT}
 use Rattle.triplets.specs.declared.Sum.{Sum}
-use Rattle.triplets.specs.Judged.{outcome, Agrees, rowAtHand, GoodRow, AddedGroups, JudgedRLO, JudgedCPT}
+use Rattle.triplets.specs.Judged.{outcome, rowAtHand, AddedGroups, JudgedRLO, JudgedCPT}
 use Rattle.triplets.proofs.Outcomes.{refused-outcome, is-described, not-described}
 use Rattle.triplets.proofs.Groups.{whole-groups}
 

@@ -9,7 +9,7 @@ use mathlib.Core.List.{List}
 use mathlib.Core.Option.{Option, none, some}
 use lib.ListN.{getD}
 use borrow.Author.Tests.{eq-eqb, ne-eqb}
-use Rattle.fdoca.specs.Basics.{lookup, isSome, Result, refuse, ok}
+use Rattle.fdoca.specs.Basics.{lookup, isSome, refuse, ok}
 use Rattle.fdoca.specs.Check.{Entry, isDescribed}
 use Rattle.triplets.specs.Judged.{outcome, KeptAs, Agrees}
 

@@ -2,27 +2,26 @@
 -- Assumes nothing.
 use mathlib.Core.Path.{_≡_, refl, sym, ap, _∙_}
 use mathlib.Core.Logic.{_≢_}
-use Prim.Native.Nat.{ℕ, zero, suc, _+_, _-_, _*_, _≤_, _<_, _^_}
+use Prim.Native.Nat.{ℕ, zero, suc, _+_, _*_, _≤_, _<_}
 use native.Mathlib.Omega.{arith}
 use native.Mathlib.Nat.{zero-mul, mul-zero, mul-one, mul-pos}
 use native.Mathlib.Numerals.{add-one}
 use mathlib.Core.Bool.{Bool, true, false, not, _&&_, and-true, and-false}
 use mathlib.Core.List.{List, [], _∷_}
-use mathlib.Core.Option.{Option, none, some}
-use lib.Dec.{ltb, leb, eqb}
-use lib.ListN.{length, getD, take, drop, length-take, length-drop, drop-of-length-le}
+use lib.Dec.{ltb, eqb}
+use lib.ListN.{length, getD, drop, length-drop, drop-of-length-le}
 use lib.Seq.{drop-cons, length-take-le}
-use borrow.Author.Tests.{lt-ltb, le-ltb, eq-eqb, ne-eqb, eqb-true, eqb-false, ltb-true, ltb-false}
+use borrow.Author.Tests.{lt-ltb, le-ltb, eq-eqb, ne-eqb, eqb-true}
 use mir.Syntax.{w64}
 use mir.Val.{Fits}
-use Rattle.fdoca.specs.Basics.{if_then_else_, elem, big, product, refuse}
+use Rattle.fdoca.specs.Basics.{if_then_else_, elem, product, refuse}
 use Rattle.fdoca.specs.Triplet.{pairs, extentsOf, idOf, codeOf, parametersOf}
 use Rattle.fdoca.specs.FieldType.{typeOf}
 use Rattle.fdoca.specs.Check.{Entry, isDescribed, goodLengthSDA, goodType, goodSDA, checkSDA}
 use Rattle.field_types.specs.Parameters.{goodEight, layoutIf}
 use Rattle.field_types.proofs.Allowed.{good-eight, layout-none, layout-some, layout-is}
 use Rattle.triplets.specs.declared.Judged.{Judged}
-use Rattle.triplets.specs.Judged.{extentOr1, Agrees, KeptAs, described, JudgedSDA}
+use Rattle.triplets.specs.Judged.{extentOr1, Agrees, described, JudgedSDA}
 use Rattle.triplets.proofs.Outcomes.{below, refused-outcome, found-outcome, is-described, not-described}
 
 -- LENGTH is one of four

@@ -1,25 +1,21 @@
 -- One group of a row, and all groups of a triplet: the refusals in order, and the count with them.
 -- Assumes nothing.
 use mathlib.Core.Path.{_≡_, refl, sym, ap, _∙_}
-use mathlib.Core.Logic.{_≢_}
 use Prim.Native.Nat.{ℕ, zero, suc, _+_, _-_, _*_, _/_, _%_, _≤_, _<_}
 use native.Mathlib.Omega.{arith}
 use mathlib.Core.Bool.{Bool, true, false}
-use mathlib.Core.List.{List, [], _∷_}
+use mathlib.Core.List.{[], _∷_}
 use mathlib.Core.Option.{Option, none, some}
-use lib.Dec.{ltb, eqb}
-use lib.ListN.{length, getD}
-use borrow.Author.Tests.{lt-ltb, le-ltb, eq-eqb, ne-eqb, ltb-false}
+use lib.Dec.{ltb}
+use borrow.Author.Tests.{lt-ltb, le-ltb, eq-eqb, ne-eqb}
 use mir.Syntax.{w64}
 use mir.Val.{Fits}
-use Rattle.fdoca.specs.Basics.{if_then_else_, product, lookup, Result, refuse, ok, _>>=_, _>>_, reject, the}
-use Rattle.fdoca.specs.Triplet.{Group}
-use Rattle.fdoca.specs.Check.{Entry, array, row, countOf, countTaken, maxItems, addGroup, addGroups}
-use Rattle.fdoca.proofs.Tests.{by-test, by-lt}
-use Rattle.plans.specs.Tied.{lowerOf}
+use Rattle.fdoca.specs.Basics.{ok, _>>=_, _>>_, reject}
+use Rattle.fdoca.specs.Check.{Entry, array, row, countTaken, maxItems, addGroup}
+use Rattle.fdoca.proofs.Tests.{by-lt}
 use Rattle.triplets.specs.declared.Sum.{Sum}
 use Rattle.triplets.proofs.Outcomes.{below, refused-outcome}
-use Rattle.triplets.specs.Judged.{outcome, lowerOfEntry, Positive, Entered, KeptAs, Agrees, groupOf, summed, AddedGroup, AddedGroups}
+use Rattle.triplets.specs.Judged.{outcome, lowerOfEntry, Positive, Entered, KeptAs, groupOf, summed, AddedGroup}
 
 -- a row's count with n more items
 module _ (sum n : ℕ) (small : sum ≤ 4096) where

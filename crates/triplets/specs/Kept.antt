@@ -2,7 +2,7 @@
 use Prim.Native.Nat.{ℕ, _+_, _*_, _<_}
 use mathlib.Core.Path.{_≡_}
 use mathlib.Core.List.{List}
-use mathlib.Core.Option.{Option, some}
+use mathlib.Core.Option.{some}
 use lib.ListN.{set}
 use Rattle.fdoca.specs.Basics.{product}
 use Rattle.fdoca.specs.FieldType.{FieldType, typeOf}

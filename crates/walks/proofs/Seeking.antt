@@ -1,16 +1,16 @@
 -- Finding an item by its mark, once the walk has found the block good.
 -- Assumes nothing.
-use Prim.Native.Nat.{ℕ, zero, suc, _+_, _-_, _*_, _/_, _%_, _<_, _≤_}
-use mathlib.Core.Path.{_≡_, refl, sym, ap, _∙_}
+use Prim.Native.Nat.{ℕ, zero, suc, _-_, _/_, _%_, _<_, _≤_}
+use mathlib.Core.Path.{_≡_, refl, ap, _∙_}
 use mathlib.Core.List.{List, [], _∷_, map}
-use mathlib.Core.Option.{Option, none, some}
+use mathlib.Core.Option.{none, some}
 use native.Mathlib.Nat.{le-of-eq}
 use native.Mathlib.Omega.{arith}
 use lib.ListN.{length, getD, take, drop, getElem?, length-map, length-drop}
 use lib.Seq.{take-all}
 use Rattle.fdoca.specs.Basics.{Result, refuse, ok, _>>=_, the}
 use Rattle.fdoca.specs.FieldType.{nullable}
-use Rattle.fdoca.specs.Item.{Field, item, measureItem, measure}
+use Rattle.fdoca.specs.Item.{Field, item, measureItem}
 use Rattle.fdoca.specs.Walk.{Note, walk}
 use Rattle.fdoca.proofs.Stops.{walk-number}
 use Rattle.fdoca.proofs.Cover.{walk-covers, item-measured}

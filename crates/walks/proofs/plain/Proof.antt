@@ -1,6 +1,5 @@
 -- `walks::plain` meets its contract.
 -- Assumes nothing.
-use borrow.Author.Needs.{needs}
 use Rattle.fdoca.proofs.Tests.{tests}
 use Rattle.walks.specs.Entry.{isPlain}
 use Rattle.walks.proofs.plain.Statement.{statement}
