@@ -6,13 +6,15 @@ use native.Mathlib.Nat.{le-of-suc-le-suc}
 use native.Mathlib.Omega.{arith}
 use mathlib.Core.List.{List, [], _∷_}
 use mathlib.Core.Option.{Option, none, some}
-use lib.ListN.{length, getElem?}
+use lib.Dec.{T}
+use lib.ListN.{length, getD, getElem?}
 use borrow.Author.Tests.{le-leb, lt-leb}
 use Rattle.fdoca.specs.FieldType.{FieldType, fixedBytes, variableBytes, terminatedBytes, shortBytes, integer, reversedInteger, hexFloat, reversedFloat, binaryFloat, types, typeOf, Layout, fixed, counted, terminated, signedTwo, unsignedOne, ruleOf}
+use Rattle.fdoca.proofs.Table.{agrees, is-table}
 use Rattle.field_types.specs.declared.Rule.{Rule}
-use Rattle.field_types.specs.Rows.{rowOf, typeAt, prefixOf, layoutOf, inNumbers, ruleFor, encoded, ruleAt}
+use Rattle.field_types.specs.Rows.{rowOf, RowTable, typeAt, prefixOf, layoutOf, inNumbers, ruleFor, encoded, ruleAt}
 
--- a type plus X'80' is the same type, and so has the same row
+-- a type plus X'80' is the same type
 pub type-nullable : (code : ℕ) → code < 128 → typeOf (code + 128) ≡ typeOf code
 unfolding typeOf
 type-nullable code l =
@@ -20,8 +22,12 @@ type-nullable code l =
     let e : code + 128 - 128 ≡ code = omega arith in
     simp (le-leb _ _ h, lt-leb _ _ l, e)
 
-pub row-nullable : (code : ℕ) → code < 128 → rowOf (typeOf (code + 128)) ≡ rowOf (typeOf code)
-row-nullable code l = ap rowOf (type-nullable code l)
+-- a table that is the rows' at each entry, and what is read there
+pub is-row-table : (xs : List ℕ) → length xs ≡ 256 → T (agrees (λ code. rowOf (typeOf code)) 0 xs) → RowTable xs
+is-row-table xs l t = record { row = λ code h. is-table (λ code. rowOf (typeOf code)) xs code (omega arith) t }
+
+pub row-read : (rows : List ℕ) (code : ℕ) → RowTable rows → code < 256 → getD rows code 0 ≡ rowOf (typeOf code)
+row-read rows code h = h .row code
 
 -- a type's row has the type, and its rule
 pub type-in-row : (o : Option FieldType) → typeAt (rowOf o) ≡ o

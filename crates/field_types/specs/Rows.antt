@@ -1,12 +1,13 @@
 -- The two tables (document 01, "Field types"): a field type's row, and a row's rule, which is the rule of its type in numbers.
-use Prim.Native.Nat.{ℕ, zero, suc, _+_}
+use Prim.Native.Nat.{ℕ, zero, suc, _+_, _<_}
+use mathlib.Core.Path.{_≡_}
 use mathlib.Core.Bool.{false}
 use mathlib.Core.List.{List, []}
 use mathlib.Core.Option.{Option, none, some}
 use lib.Dec.{eqb}
 use lib.ListN.{getD, getElem?}
 use Rattle.fdoca.specs.Basics.{if_then_else_}
-use Rattle.fdoca.specs.FieldType.{FieldType, fixedBytes, variableBytes, terminatedBytes, shortBytes, integer, reversedInteger, hexFloat, reversedFloat, binaryFloat, types, Layout, fixed, counted, terminated, signedTwo, unsignedOne, Lengths, upTo, oneOf, rule, ruleOf}
+use Rattle.fdoca.specs.FieldType.{FieldType, fixedBytes, variableBytes, terminatedBytes, shortBytes, integer, reversedInteger, hexFloat, reversedFloat, binaryFloat, types, typeOf, Layout, fixed, counted, terminated, signedTwo, unsignedOne, Lengths, upTo, oneOf, rule, ruleOf}
 use Rattle.fdoca.specs.FieldType as definition
 use Rattle.fdoca.specs.Check.{most}
 use Rattle.field_types.specs.declared.Rule.{Rule}
@@ -23,6 +24,10 @@ rowOf (some reversedInteger) = 6
 rowOf (some hexFloat) = 7
 rowOf (some reversedFloat) = 8
 rowOf (some binaryFloat) = 9
+
+-- A table of the rows of all type codes.
+pub record RowTable (rows : List ℕ) : Type 0 where
+  pub row : (code : ℕ) → code < 256 → getD rows code 0 ≡ rowOf (typeOf code)
 
 abbrev pub typeOfEntry : Option (ℕ × FieldType) → Option FieldType
 typeOfEntry none = none

@@ -5,7 +5,7 @@ ghost use mathlib.Core.List.{[], _∷_};
 ghost use lib.ListN.{length};
 ghost use Rattle.fdoca.specs.Basics.{big};
 ghost use Rattle.fdoca.specs.FieldType.{typeOf, nullable};
-ghost use Rattle.field_types.specs.Rows.{rowOf, ruleAt};
+ghost use Rattle.field_types.specs.Rows.{rowOf, RowTable, ruleAt};
 ghost use Rattle.field_types.specs.Parameters.{unusedZero, ruleAllows, goodEight, layoutIf};
 
 // A number that no field length is, since two bytes do not hold it.
@@ -399,6 +399,13 @@ pub fn row_of(code: u8) -> u8
     ROWS[code as usize]
 }
 
+// The rows of all type codes, for a caller that looks up many: the constant is built anew wherever it is read.
+pub fn all_rows() -> [u8; 256]
+    ensures { λ r. ⌜ RowTable r ⌝ }
+{
+    ROWS
+}
+
 // The rule in a row; past the table, that of row 0. Each index is a constant, so that the table is never copied to be read.
 fn rule_at(row: u8) -> Rule
     ensures { λ r. ⌜ r ≡ ruleAt row ⌝ }
@@ -484,7 +491,8 @@ fn rule_allows(rule: Rule, bias: usize, mode: u8, f: usize) -> bool
 }
 
 // The layout's number of an SDA whose type parameters are eight bytes that its field type allows, else NO_LAYOUT.
-pub fn layout_of(code: u8, ps: &[u8]) -> u8
+pub fn layout_of(rows: &[u8; 256], code: u8, ps: &[u8]) -> u8
+    requires { ⌜ RowTable (now rows) ⌝ }
     ensures { λ r. ⌜ r ≡ layoutIf (goodEight code (now (ps .entry))) code ⌝ }
 {
     if ps.len() != 8 {
@@ -493,7 +501,7 @@ pub fn layout_of(code: u8, ps: &[u8]) -> u8
     if !unused_zero(ps) {
         return NO_LAYOUT;
     }
-    let rule = rule_at(row_of(code));
+    let rule = rule_at(rows[code as usize]);
     if rule_allows(rule, pair(ps[2], ps[3]), ps[5], pair(ps[6], ps[7])) {
         return rule.prefix;
     }

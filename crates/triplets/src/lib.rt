@@ -7,6 +7,7 @@ ghost use lib.ListN.{length};
 ghost use Rattle.fdoca.specs.Triplet.{codeOf, extentsOf, groupsOf};
 ghost use Rattle.fdoca.specs.Basics.{elem, product};
 ghost use Rattle.fdoca.specs.Check.{goodLengthSDA, goodSDA, goodLengthRow, goodLengthISD, goodISD};
+ghost use Rattle.field_types.specs.Rows.{RowTable};
 ghost use Rattle.field_types.specs.Parameters.{layoutNumber, layoutIf};
 ghost use Rattle.plans.specs.Tied.{lowerOf};
 ghost use Rattle.triplets.specs.Judged.{extentOr1, summed, JudgedSDA, AddedGroup, AddedGroups, JudgedRLO, JudgedCPT, JudgedISD};
@@ -121,8 +122,8 @@ fn item_count(t: &[u8]) -> usize
 }
 
 // The layout's number of an SDA whose id, type, parameters and extents are good, else NO_LAYOUT.
-fn sda_layout(t: &[u8]) -> u8
-    requires { ⌜ goodLengthSDA (now t) ≡ true ⌝ }
+fn sda_layout(t: &[u8], rows: &[u8; 256]) -> u8
+    requires { ⌜ RowTable (now rows) × (goodLengthSDA (now t) ≡ true) ⌝ }
     ensures { λ r. ⌜ r ≡ layoutIf (goodSDA (now (t .entry))) (codeOf (now (t .entry))) ⌝ }
 {
     if t[2] == 0 {
@@ -131,17 +132,18 @@ fn sda_layout(t: &[u8]) -> u8
     if item_count(t) == 0 {
         return field_types::NO_LAYOUT;
     }
-    field_types::layout_of(t[3], &t[4..12])
+    field_types::layout_of(rows, t[3], &t[4..12])
 }
 
 // An SDA's layout and item count, or the number of its refusal.
-pub fn judge_sda(t: &[u8], starts: &[u16; 256]) -> Judged
+pub fn judge_sda(t: &[u8], rows: &[u8; 256], starts: &[u16; 256]) -> Judged
+    requires { ⌜ RowTable (now rows) ⌝ }
     ensures { λ r. ⌜ JudgedSDA (now (t .entry)) (now (starts .entry)) r ⌝ }
 {
     if !sda_length(t) {
         return refused(5);
     }
-    let layout = sda_layout(t);
+    let layout = sda_layout(t, rows);
     if layout == field_types::NO_LAYOUT {
         return refused(6);
     }

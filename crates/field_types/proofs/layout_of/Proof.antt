@@ -1,5 +1,8 @@
+-- `field_types::layout_of` meets its contract.
+-- Assumes nothing.
 use borrow.Author.Needs.{needs}
 use borrow.Author.Tests.{not-true, not-false}
+use Rattle.field_types.proofs.Rows.{row-read}
 use Rattle.field_types.proofs.Allowed.{no-layout, not-eight, unused-set, by-rule, by-layout}
 use Rattle.field_types.proofs.layout_of.Statement.{statement}
 use Rattle.field_types.proofs.layout_of.Tie as tie
@@ -13,8 +16,8 @@ unused-zero-requires c κs = search needs
 returns-2 : tie.Need-returns-2
 returns-2 c = search (no-layout, unused-set, not-true)
 
-row-of-requires : tie.Need-row-of-requires
-row-of-requires c κs = search needs
+element-copy-out-rule-at : tie.Need-element-copy-out-rule-at
+element-copy-out-rule-at c = search needs
 
 rule-at-requires : tie.Need-rule-at-requires
 rule-at-requires c κs = search needs
@@ -44,10 +47,10 @@ rule-allows-requires : tie.Need-rule-allows-requires
 rule-allows-requires c κs = search needs
 
 returns-3 : tie.Need-returns-3
-returns-3 c = search (by-layout, by-rule, not-false)
+returns-3 c = search (needs, by-layout, by-rule, not-false, row-read)
 
 returns-4 : tie.Need-returns-4
-returns-4 c = search (no-layout, by-rule, not-false)
+returns-4 c = search (needs, no-layout, by-rule, not-false, row-read)
 
 pub layout-of-spec : {M : Type 1} → statement M
 layout-of-spec =
@@ -56,7 +59,7 @@ layout-of-spec =
     returns
     unused-zero-requires
     returns-2
-    row-of-requires
+    element-copy-out-rule-at
     rule-at-requires
     shared-slice-read-pair
     shared-slice-read-pair-2
