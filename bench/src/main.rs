@@ -1,31 +1,39 @@
 //! Times the proved library beside a reader in plain Rust, on the same inputs, in
 //! turns, and prints a table.
 //!
-//! Where the stack and the code happen to lie changes the time of short calls, so
-//! several processes measure, and the table has their medians.
+//! Where the stack and the code happen to lie changes the times, so several processes
+//! of each program named by the arguments measure, and the table has their medians.
+//! The programs differ in where the library's code lies.
 
 mod fast;
 mod inputs;
 mod measure;
+mod placement;
 mod timing;
 
 use std::env;
 use std::io;
+use std::path::{Path, PathBuf};
 use std::process::Command;
 
 use measure::Measurement;
 use timing::{geometric_mean, median, Timing};
 
-const PROCESSES: usize = 7;
+const PROCESSES: usize = 3;
 const MEASURE: &str = "--measure";
 
 fn main() -> io::Result<()> {
-    if env::args().nth(1).as_deref() == Some(MEASURE) {
+    let mut programs: Vec<PathBuf> = env::args_os().skip(1).map(PathBuf::from).collect();
+    if programs == [Path::new(MEASURE)] {
         measure::print_all();
         return Ok(());
     }
+    if programs.is_empty() {
+        programs.push(env::current_exe()?);
+    }
     let runs: Vec<Vec<Measurement>> = (0..PROCESSES)
-        .map(|_| measure_in_process())
+        .flat_map(|_| &programs)
+        .map(|program| measure_in_process(program))
         .collect::<io::Result<_>>()?;
     let rows: Vec<Measurement> = (0..runs[0].len())
         .map(|row| median_of_runs(&runs, row))
@@ -34,8 +42,8 @@ fn main() -> io::Result<()> {
     Ok(())
 }
 
-fn measure_in_process() -> io::Result<Vec<Measurement>> {
-    let output = Command::new(env::current_exe()?).arg(MEASURE).output()?;
+fn measure_in_process(program: &Path) -> io::Result<Vec<Measurement>> {
+    let output = Command::new(program).arg(MEASURE).output()?;
     let text = String::from_utf8_lossy(&output.stdout);
     let rows: Vec<Measurement> = text.lines().filter_map(Measurement::parse).collect();
     match output.status.success() && !rows.is_empty() {
