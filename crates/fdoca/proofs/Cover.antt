@@ -1,5 +1,5 @@
 -- The items of a walk: those of fs ++ gs are those of fs and then those of gs. Where the walk accepts they are the fields' in order, laid end to end
--- over the whole data, so that each byte lies in just one item.
+-- over the whole data, so that each byte lies in just one item; and each is what measuring at its start finds.
 -- Assumes nothing.
 use mathlib.Core.Path.{_≡_, refl, ap, _∙_}
 use Prim.Native.Nat.{ℕ, zero, suc, _+_, _≤_, _<_}
@@ -65,9 +65,6 @@ covers-from p (f ∷ fs) s =
       fields = rw (h .field-is, k .fields);
     } in
     holds r))
-
-pub cut-covers : (p : ℕ) (fs : List Field) (s : List ℕ) (c : Cut) → cutFrom p fs s ≡ ok c → Covers p fs s c
-cut-covers p fs s c e = ok-of (rw e at (covers-from p fs s))
 
 -- what is noted of an accepted block
 pub record Walked (fs : List Field) (s : List ℕ) (ns : List Note) : Type 0 where
@@ -184,39 +181,45 @@ cut-append p (f ∷ fs) gs s = go (noteOf f p (measure f s)) (λ q t. cut-append
         ap (λ x. x >>= (λ c. ok (with n c))) (ih (p + itemLength n) (drop (itemLength n) s))
         ∙ with-joined n (λ q t. cutFrom q gs t) (cutFrom (p + itemLength n) fs (drop (itemLength n) s))
 
--- what is noted of an item is what measuring at its start finds
-abbrev pub MeasuredIn : List ℕ → Note → Type 0
-MeasuredIn s n = measure (n .field) (drop (n .start) s) ≡ item (n .isNull) (n .prefix) (n .value) (n .padding)
+-- a note of an item that stands at its start: measured there again, it is what was noted
+pub record Stands (s : List ℕ) (n : Note) : Type 0 where
+  pub starts : n .start ≤ length s
+  pub measured : measure (n .field) (drop (n .start) s) ≡ item (n .isNull) (n .prefix) (n .value) (n .padding)
 
-data AllMeasured (s : List ℕ) : List Note → Type 0 where
-  nil : AllMeasured s []
-  cons : {n : Note} {ns : List Note} → MeasuredIn s n → AllMeasured s ns → AllMeasured s (n ∷ ns)
+pub data Standing (s : List ℕ) : List Note → Type 0 where
+  none-left : Standing s []
+  one-more : {n : Note} {ns : List Note} → Stands s n → Standing s ns → Standing s (n ∷ ns)
 
-note-measured : (f : Field) (p : ℕ) (s : List ℕ) → IfOk (MeasuredIn s) (noteOf f p (measure f (drop p s)))
+stands-note : (f : Field) (p : ℕ) (s : List ℕ) → p ≤ length s → IfOk (λ n. Stands s n × (p + itemLength n ≤ length s)) (noteOf f p (measure f (drop p s)))
 unfolding noteOf
-note-measured f p s = go (measure f (drop p s)) refl
+stands-note f p s h = go (measure f (drop p s)) refl (within f (drop p s))
   where
-    go : (m : Measured) → measure f (drop p s) ≡ m → IfOk (MeasuredIn s) (noteOf f p m)
-    go (refused k) e = none-owed
-    go (item z l v r) e = let h : MeasuredIn s (record { start = p; field = f; isNull = z; prefix = l; value = v; padding = r }) = e in holds h
+    go : (m : Measured) → measure f (drop p s) ≡ m → Within (length (drop p s)) m → IfOk (λ n. Stands s n × (p + itemLength n ≤ length s)) (noteOf f p m)
+    go (refused n) e w = none-owed
+    go (item z l v r) e w =
+        let a : Stands s (record { start = p; field = f; isNull = z; prefix = l; value = v; padding = r }) = record { starts = h; measured = e } in
+        let b : p + (l + v + r) ≤ length s = omega (arith, w, length-drop p s) in
+        holds (a, b)
 
-cut-measured : (p : ℕ) (fs : List Field) (s : List ℕ) → IfOk (λ c. AllMeasured s (c .notes)) (cutFrom p fs (drop p s))
+standing-from : (p : ℕ) (fs : List Field) (s : List ℕ) → p ≤ length s → IfOk (λ c. Standing s (c .notes)) (cutFrom p fs (drop p s))
 unfolding cutFrom
-cut-measured p [] s = holds nil
-cut-measured p (f ∷ fs) s =
-    bind-all (noteOf f p (measure f (drop p s))) (note-measured f p s)
-    (λ n h. bind-all (cutFrom (p + itemLength n) fs (drop (itemLength n) (drop p s))) (rw (drop-drop (itemLength n) p s) (cut-measured (p + itemLength n) fs s))
-    (λ c k. let r : AllMeasured s (with n c .notes) = cons h k in holds r))
+standing-from p [] s h = holds none-left
+standing-from p (f ∷ fs) s h =
+    bind-all (noteOf f p (measure f (drop p s))) (stands-note f p s h)
+    (λ n k. rw (drop-drop (itemLength n) p s)
+    (bind-all (cutFrom (p + itemLength n) fs (drop (p + itemLength n) s)) (standing-from (p + itemLength n) fs s (k .1))
+    (λ c q. let r : Standing s (with n c .notes) = one-more (k .0) q in holds r)))
 
-all-measured : (fs : List Field) (s : List ℕ) → IfOk (AllMeasured s) (walk fs s)
+all-standing : (fs : List Field) (s : List ℕ) → IfOk (Standing s) (walk fs s)
 unfolding walk
-all-measured fs s =
-    bind-all (cutFrom 0 fs s) (cut-measured 0 fs s) (λ c k. reject-all (ltb 0 (length (c .rest))) 16 (c .end) (λ h. holds k))
+all-standing fs s =
+    bind-all (cutFrom 0 fs s) (standing-from 0 fs s (omega arith))
+    (λ c k. reject-all (ltb 0 (length (c .rest))) 16 (c .end) (λ h. holds k))
 
-nth-measured : (s : List ℕ) (ns : List Note) (k : ℕ) (n : Note) → AllMeasured s ns → getElem? ns k ≡ some n → MeasuredIn s n
-nth-measured s [] k n nil e = absurd (let z : _≡_ {A = ℕ} 0 1 = cc in let o : ⊥ = omega arith in o)
-nth-measured s (x ∷ ns) zero n (cons h t) e = let a : x ≡ n = cc in rw (← a) h
-nth-measured s (x ∷ ns) (suc k) n (cons h t) e = nth-measured s ns k n t e
+pub standing : (fs : List Field) (s : List ℕ) (ns : List Note) → walk fs s ≡ ok ns → Standing s ns
+standing fs s ns e = ok-of (rw e at (all-standing fs s))
 
-pub item-measured : (fs : List Field) (s : List ℕ) (ns : List Note) (k : ℕ) (n : Note) → walk fs s ≡ ok ns → getElem? ns k ≡ some n → MeasuredIn s n
-item-measured fs s ns k n e q = nth-measured s ns k n (ok-of (rw e at (all-measured fs s))) q
+pub nth-stands : {s : List ℕ} {ns : List Note} → Standing s ns → (k : ℕ) (n : Note) → getElem? ns k ≡ some n → Stands s n
+nth-stands none-left k n e = absurd (let z : _≡_ {A = ℕ} 0 1 = cc in let o : ⊥ = omega arith in o)
+nth-stands (one-more {n = x} h t) zero n e = let a : x ≡ n = cc in rw (← a) h
+nth-stands (one-more h t) (suc k) n e = nth-stands t k n e

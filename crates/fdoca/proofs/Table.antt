@@ -1,12 +1,13 @@
--- A table's rule, at every entry, from one test that is computed over the whole table.
+-- A table's rule, at every entry, from one test that is computed over the whole table; and its end.
 -- Assumes nothing.
 use mathlib.Core.Path.{_≡_, refl, ap, _∙_}
-use Prim.Native.Nat.{ℕ, zero, suc, _+_, _<_}
+use Prim.Native.Nat.{ℕ, zero, suc, _+_, _<_, _≤_}
 use native.Mathlib.Omega.{arith}
 use mathlib.Core.Bool.{Bool, true, false, _&&_}
 use mathlib.Core.List.{List, [], _∷_}
+use mathlib.Core.Option.{none}
 use lib.Dec.{T, eqb, eqb→eq}
-use lib.ListN.{length, getD}
+use lib.ListN.{length, getD, getElem?}
 
 -- each entry is the rule's number at its place, counted from i
 abbrev pub agrees : (ℕ → ℕ) → ℕ → List ℕ → Bool
@@ -27,3 +28,9 @@ from g i (x ∷ xs) (suc k) h t =
 -- for `search`, which takes the list from the goal
 pub is-table : (g : ℕ → ℕ) (xs : List ℕ) (k : ℕ) → k < length xs → T (agrees g 0 xs) → getD xs k 0 ≡ g k
 is-table g xs k h t = let n : 0 + k ≡ k = omega arith in from g 0 xs k h t ∙ ap g n
+
+-- nothing stands past a list's end
+pub past-end : {A : Type 0} (l : List A) (k : ℕ) → length l ≤ k → getElem? l k ≡ none
+past-end [] k h = refl
+past-end (x ∷ l) zero h = absurd (let z : ⊥ = omega arith in z)
+past-end (x ∷ l) (suc k) h = past-end l k (omega arith)

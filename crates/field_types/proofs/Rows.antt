@@ -2,15 +2,14 @@
 -- Assumes nothing.
 use mathlib.Core.Path.{_≡_, refl, sym, _∙_, ap}
 use Prim.Native.Nat.{ℕ, zero, suc, _+_, _-_, _<_, _≤_}
-use native.Mathlib.Nat.{le-of-suc-le-suc}
 use native.Mathlib.Omega.{arith}
-use mathlib.Core.List.{List, [], _∷_}
+use mathlib.Core.List.{List}
 use mathlib.Core.Option.{Option, none, some}
 use lib.Dec.{T}
-use lib.ListN.{length, getD, getElem?}
+use lib.ListN.{length, getD}
 use borrow.Author.Tests.{le-leb, lt-leb}
 use Rattle.fdoca.specs.FieldType.{FieldType, fixedBytes, variableBytes, terminatedBytes, shortBytes, integer, reversedInteger, hexFloat, reversedFloat, binaryFloat, types, typeOf, Layout, fixed, counted, terminated, signedTwo, unsignedOne, ruleOf}
-use Rattle.fdoca.proofs.Table.{agrees, is-table}
+use Rattle.fdoca.proofs.Table.{agrees, is-table, past-end}
 use Rattle.field_types.specs.declared.Rule.{Rule}
 use Rattle.field_types.specs.Rows.{rowOf, RowTable, typeAt, prefixOf, layoutOf, inNumbers, ruleFor, encoded, ruleAt}
 
@@ -73,11 +72,6 @@ behind row zero n h = h
 behind row (suc k) n h = let l : k < row = behind row k (n .0) h in omega (arith, n .1)
 
 -- rows outside the table have no type
-past-end : (l : List (ℕ × FieldType)) (k : ℕ) → length l ≤ k → getElem? l k ≡ none
-past-end [] k h = refl
-past-end (x ∷ l) zero h = absurd (let z : ⊥ = omega arith in z)
-past-end (x ∷ l) (suc k) h = past-end l k (le-of-suc-le-suc h)
-
 pub outside-table : (row : ℕ) → NoneTo row 9 → encoded none ≡ ruleAt row
 unfolding ruleAt typeAt
 outside-table zero n = refl

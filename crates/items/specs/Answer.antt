@@ -1,4 +1,4 @@
--- The code's struct as what it stands for in the papers' definitions, and two steps of these.
+-- The code's struct as what it stands for in the papers' definitions, and steps of these.
 use Prim.Native.Nat.{ℕ, _+_, _-_}
 use mathlib.Core.Bool.{Bool, true, false}
 use mathlib.Core.List.{List, [], _∷_}

@@ -19,12 +19,13 @@ use Rattle.descriptors.specs.declared.Examined.{Examined}
 use Rattle.descriptors.specs.Holds.{Ready, Examination}
 use Rattle.walks.specs.declared.Stop.{Stop}
 use Rattle.descriptors.proofs.Callers.{for-unfolding, refused-by}
+use Rattle.fdoca.proofs.Cover.{Standing, standing}
 use Rattle.walks.specs.Marks.{markOf, stopOf, Marked, Noted}
 use Rattle.walks.proofs.Callers.{all-noted}
 use Rattle.listing.specs.Put.{Put, Told}
 use Rattle.listing.specs.Lines.{firstLine, entryLines, StartsIn}
 use Rattle.listing.proofs.Putting.{both}
-use Rattle.listing.proofs.Standing.{Standing, standing, same-lines, marks-inside}
+use Rattle.listing.proofs.Standing.{same-lines, marks-inside}
 
 -- ---- `write_by`
 

@@ -40,7 +40,7 @@ record Sound (s : List ℕ) (n : Note) : Type 0 where
   inside : n .start + itemLength n ≤ length s
   proper : Proper (n .field)
 
-pub item-inside : (p : ℕ) (ns : List Note) (k : ℕ) (n : Note) → map (λ i. i .start) ns ≡ positions p (lengths ns) → getElem? ns k ≡ some n → n .start + itemLength n ≤ p + sum (lengths ns)
+item-inside : (p : ℕ) (ns : List Note) (k : ℕ) (n : Note) → map (λ i. i .start) ns ≡ positions p (lengths ns) → getElem? ns k ≡ some n → n .start + itemLength n ≤ p + sum (lengths ns)
 item-inside p [] k n h e = absurd (let z : _≡_ {A = ℕ} 0 1 = cc in let o : ⊥ = omega arith in o)
 item-inside p (x ∷ ns) zero n h e =
     let a : x ≡ n = cc in

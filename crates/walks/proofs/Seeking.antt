@@ -3,7 +3,7 @@
 use Prim.Native.Nat.{ℕ, zero, suc, _-_, _/_, _%_, _<_, _≤_}
 use mathlib.Core.Path.{_≡_, refl, ap, _∙_}
 use mathlib.Core.List.{List, [], _∷_, map}
-use mathlib.Core.Option.{none, some}
+use mathlib.Core.Option.{some}
 use native.Mathlib.Nat.{le-of-eq}
 use native.Mathlib.Omega.{arith}
 use lib.ListN.{length, getD, take, drop, getElem?, length-map, length-drop}
@@ -13,7 +13,8 @@ use Rattle.fdoca.specs.FieldType.{nullable}
 use Rattle.fdoca.specs.Item.{Field, item, measureItem}
 use Rattle.fdoca.specs.Walk.{Note, walk}
 use Rattle.fdoca.proofs.Stops.{walk-number}
-use Rattle.fdoca.proofs.Cover.{walk-covers, item-measured}
+use Rattle.fdoca.proofs.Cover.{standing, nth-stands}
+use Rattle.fdoca.proofs.Table.{past-end}
 use Rattle.field_types.specs.Rows.{layoutOf}
 use Rattle.items.specs.declared.Parts.{Parts}
 use Rattle.items.specs.Known.{Good, PartsOf}
@@ -24,7 +25,7 @@ use Rattle.walks.specs.Entry.{measureEntry}
 use Rattle.walks.specs.Marks.{stopOf, markOf, Marked}
 use Rattle.walks.specs.Finding.{foundOf, itemOf, IsPlan, MarkIn, IsMark, FoundBy}
 use Rattle.walks.proofs.Parts.{entry-part, mark-part, entry-measures}
-use Rattle.walks.proofs.Callers.{all-noted, item-inside, item-proper}
+use Rattle.walks.proofs.Callers.{all-noted, item-proper}
 
 -- the item of a mark, by the mark's parts
 module _ (s : List ℕ) (e : ℕ) (n : Note) (h : MarkIn s e n) where
@@ -42,11 +43,11 @@ module _ (s : List ℕ) (e : ℕ) (n : Note) (h : MarkIn s e n) where
   item-here : measureItem (nullable (e / 16777216 % 256)) (layoutOf (e / 1099511627776 % 256)) (e / 4294967296 % 256) (e % 65536) (take (length s - e / 281474976710656) (drop (e / 281474976710656) s))
       ≡ item (n .isNull) (n .prefix) (n .value) (n .padding)
   unfolding measureEntry markOf
-  item-here = rw here (ap (λ y. measureEntry y (drop (n .start) s)) (h .mark) ∙ entry-measures (n .field) (n .start) (drop (n .start) s) (h .proper) ∙ h .measured)
+  item-here = rw here (ap (λ y. measureEntry y (drop (n .start) s)) (h .mark) ∙ entry-measures (n .field) (n .start) (drop (n .start) s) (h .proper) ∙ h .stands .measured)
 
 module _ (s : List ℕ) (e : ℕ) (h : IsMark s e) where
   pub mark-inside : e / 281474976710656 ≤ length s
-  mark-inside = rw (start-is s e (h .note) (h .mark-in)) (h .mark-in .inside)
+  mark-inside = rw (start-is s e (h .note) (h .mark-in)) (h .mark-in .stands .starts)
 
   pub mark-good : Good (nullable (e / 16777216 % 256)) (layoutOf (e / 1099511627776 % 256)) (e % 65536) (take (length s - e / 281474976710656) (drop (e / 281474976710656) s))
   mark-good =
@@ -82,11 +83,6 @@ nth [] k h = absurd (let z : ⊥ = omega arith in z)
 nth (n ∷ ns) zero h = record { note = n; there = refl; marked = refl }
 nth (n ∷ ns) (suc k) h = let r = nth ns k (omega arith) in record { note = r .note; there = r .there; marked = r .marked }
 
-none-there : (ns : List Note) (k : ℕ) → length ns ≤ k → getElem? ns k ≡ none
-none-there [] k h = refl
-none-there (n ∷ ns) zero h = absurd (let z : ⊥ = omega arith in z)
-none-there (n ∷ ns) (suc k) h = none-there ns k (omega arith)
-
 -- the walk over the plan es of the fields fs has stopped, and es′ is the plan that it left
 module _ (es s es′ : List ℕ) (stop : Stop) (k : ℕ) (f : (fs : List Field) → Planned es fs → Marked stop es′ (walk fs s)) where
   module _ (fs : List Field) (p : Planned es fs) where
@@ -116,7 +112,7 @@ module _ (es s es′ : List ℕ) (stop : Stop) (k : ℕ) (f : (fs : List Field) 
 
     pub find-none : (r : Found) → stop .number ≡ 0 → length es′ ≤ k → r ≡ foundOf (refuse 17 0) → r ≡ foundOf (itemOf fs s k)
     unfolding itemOf
-    find-none r z h q = simp (noted z .walked, none-there (noted z .notes) k (omega (arith, long z))) q
+    find-none r z h q = simp (noted z .walked, past-end (noted z .notes) k (omega (arith, long z))) q
 
     module _ (z : stop .number ≡ 0) (h : k < length es′) where
       one : Nth (noted z .notes) k
@@ -125,12 +121,10 @@ module _ (es s es′ : List ℕ) (stop : Stop) (k : ℕ) (f : (fs : List Field) 
       mark-in : MarkIn s (getD es′ k 0) (one .note)
       mark-in =
           let w = noted z in
-          let c = walk-covers fs s (w .notes) (w .walked) in
           record {
             mark = ap (λ l. getD l k 0) (w .plan-is) ∙ one .marked;
             proper = item-proper (all-noted es fs s (w .notes) p (w .walked)) k (one .note) (one .there);
-            inside = omega (arith, item-inside 0 (w .notes) k (one .note) (c .starts) (one .there), c .total);
-            measured = item-measured fs s (w .notes) k (one .note) (w .walked) (one .there);
+            stands = nth-stands (standing fs s (w .notes) (w .walked)) k (one .note) (one .there);
           }
 
       pub find-item : (r : Found) → FoundBy s (getD es′ k 0) r → r ≡ foundOf (itemOf fs s k)

@@ -1,13 +1,13 @@
 -- One item of a block: where it starts, and how its bytes are laid out.
-use Prim.Native.Nat.{ℕ, _≤_}
+use Prim.Native.Nat.{ℕ}
 use mathlib.Core.Path.{_≡_}
 use mathlib.Core.Bool.{false}
 use mathlib.Core.List.{List}
-use lib.ListN.{length, getElem?}
+use lib.ListN.{getElem?}
 use Rattle.fdoca.specs.Basics.{Result, refuse, ok, _>>=_, the}
 use Rattle.fdoca.specs.Item.{Field}
 use Rattle.fdoca.specs.Walk.{Note, walk}
-use Rattle.fdoca.proofs.Cover.{MeasuredIn}
+use Rattle.fdoca.proofs.Cover.{Stands}
 use Rattle.plans.specs.Plan.{entryOf, Proper, Planned}
 use Rattle.walks.specs.declared.Found.{Found}
 use Rattle.walks.specs.Marks.{markOf}
@@ -30,8 +30,7 @@ pub record IsPlan (es : List ℕ) : Type 0 where
 pub record MarkIn (s : List ℕ) (e : ℕ) (n : Note) : Type 0 where
   pub mark : e ≡ markOf n
   pub proper : Proper (n .field)
-  pub inside : n .start ≤ length s
-  pub measured : MeasuredIn s n
+  pub stands : Stands s n
 
 pub record IsMark (s : List ℕ) (e : ℕ) : Type 0 where
   pub note : Note
