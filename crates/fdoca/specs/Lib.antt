@@ -8,3 +8,4 @@ pub mod Unfolding
 pub mod Calls
 pub mod Dump
 pub mod Account
+pub mod Reasons

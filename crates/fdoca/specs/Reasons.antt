@@ -1,0 +1,317 @@
+-- Document 01's table "Numbers a caller can meet", row by row: for each number its column "When", said of a triplet, a group, an item or a call by
+-- itself, with its place and without regard to the other rows; then 01's order. Bytes are read at their places here, and nothing is shared with the
+-- check, with measuring, or with the calls.
+use mathlib.Core.Path.{_≡_}
+use mathlib.Core.Logic.{_≢_, _⊎_}
+use Prim.Native.Nat.{ℕ, zero, suc, _+_, _*_, _≤_, _<_}
+use mathlib.Core.List.{List, [], _∷_, _++_}
+use lib.ListN.{length, getD}
+use Rattle.fdoca.specs.Item.{Field}
+use Rattle.fdoca.specs.Account.{Parts, Block}
+use Rattle.fdoca.specs.Unfolding.{unfolded}
+
+abbrev pub byte : List ℕ → (place : ℕ) → ℕ
+byte s p = getD s p 0
+
+-- An unsigned number of two bytes, most significant first.
+abbrev pub twoBytes : List ℕ → (place : ℕ) → ℕ
+twoBytes s p = byte s p * 256 + byte s (p + 1)
+
+-- A number is one of a few.
+pub data OneOf : ℕ → List ℕ → Type 0 where
+  here : {n m : ℕ} {ns : List ℕ} → n ≡ m → OneOf n (m ∷ ns)
+  there : {n m : ℕ} {ns : List ℕ} → OneOf n ns → OneOf n (m ∷ ns)
+
+-- TRIPLETS, numbered from 0, left to right. Byte 0 is LENGTH, counting itself.
+unfoldable pub place : List ℕ → (j : ℕ) → ℕ
+place d zero = 0
+place d (suc j) = place d j + byte d (place d j)
+
+-- Byte i of triplet j.
+abbrev pub byteOf : List ℕ → (j i : ℕ) → ℕ
+byteOf d j i = byte d (place d j + i)
+
+pub record Whole (d : List ℕ) (j : ℕ) : Type 0 where
+  pub long : 2 ≤ byteOf d j 0
+  pub fits : place d j + byteOf d j 0 ≤ length d
+
+-- Triplet j is there: those before it are whole, and bytes are left.
+pub record There (d : List ℕ) (j : ℕ) : Type 0 where
+  pub before : (i : ℕ) → i < j → Whole d i
+  pub left : place d j < length d
+
+-- Byte 1 is the construct type.
+abbrev pub sda : ℕ
+sda = 0x70
+
+abbrev pub rlo : ℕ
+rlo = 0x71
+
+abbrev pub isd : ℕ
+isd = 0x7E
+
+abbrev pub cpt : ℕ
+cpt = 0x7F
+
+pub record Is (d : List ℕ) (construct j : ℕ) : Type 0 where
+  pub there : There d j
+  pub type : byteOf d j 1 ≡ construct
+
+-- An SDA or an RLO describes the id in byte 2.
+pub record Describes (d : List ℕ) (id j : ℕ) : Type 0 where
+  pub kind : Is d sda j ⊎ Is d rlo j
+  pub named : byteOf d j 2 ≡ id
+
+-- Triplet j belongs to the RLO r: it is that RLO, or stands behind it with CPTs alone between.
+pub record InRow (d : List ℕ) (r j : ℕ) : Type 0 where
+  pub head : Is d rlo r
+  pub behind : r ≤ j
+  pub continued : (i : ℕ) → r < i → i ≤ j → Is d cpt i
+
+-- Group k of triplet j lies within its LENGTH: from byte 3, three bytes each.
+abbrev pub Group : List ℕ → (j k : ℕ) → Type 0
+Group d j k = 6 + 3 * k ≤ byteOf d j 0
+
+abbrev pub reference : List ℕ → (j k : ℕ) → ℕ
+reference d j k = byteOf d j (3 + 3 * k)
+
+abbrev pub taken : List ℕ → (j k : ℕ) → ℕ
+taken d j k = byteOf d j (4 + 3 * k)
+
+abbrev pub factor : List ℕ → (j k : ℕ) → ℕ
+factor d j k = byteOf d j (5 + 3 * k)
+
+-- A row of the RLO r refers to triplet q by an id. An RLO counts as described after its last CPT, so q stands before the RLO.
+pub record Refers (d : List ℕ) (r id q : ℕ) : Type 0 where
+  pub earlier : q < r
+  pub describes : Describes d id q
+
+-- COUNTS. An SDA's extents follow its first 12 bytes, two bytes each, the highest dimension first.
+abbrev pub extent : List ℕ → (q k : ℕ) → ℕ
+extent d q k = twoBytes d (place d q + (12 + 2 * k))
+
+-- The product of all extents but the highest, of an SDA with one, two or three.
+pub data Lower (d : List ℕ) (q : ℕ) : ℕ → Type 0 where
+  one : byteOf d q 0 ≡ 14 → Lower d q 1
+  two : byteOf d q 0 ≡ 16 → Lower d q (extent d q 1)
+  three : byteOf d q 0 ≡ 18 → Lower d q (extent d q 1 * extent d q 2)
+
+mutual
+  -- The SDA or RLO q stands for n items: an SDA for the product of its extents, or one without; an RLO for those of all its groups.
+  pub data Counts (d : List ℕ) : (q n : ℕ) → Type 0 where
+    single : {q : ℕ} → Is d sda q → byteOf d q 0 ≡ 12 → Counts d q 1
+    array : {q l : ℕ} → Is d sda q → Lower d q l → Counts d q (extent d q 0 * l)
+    row : {q j k n : ℕ} → UpTo d q j k n → byteOf d j 0 ≡ 3 + 3 * k → (Is d cpt (suc j) → ⊥) → Counts d q n
+
+  -- Group k of triplet j adds n items to the row of the RLO r. Elements taken 0 keeps the lower triplet as it is; another number replaces the highest
+  -- extent of an SDA.
+  pub data Adds (d : List ℕ) : (r j k n : ℕ) → Type 0 where
+    kept : {r j k q n : ℕ} → Refers d r (reference d j k) q → taken d j k ≡ 0 → Counts d q n → Adds d r j k (factor d j k * n)
+    replaced : {r j k q l : ℕ} → Refers d r (reference d j k) q → 0 < taken d j k → Is d sda q → Lower d q l
+        → Adds d r j k (factor d j k * (taken d j k * l))
+
+  -- The RLO r counts n items before group k of its triplet j.
+  pub data UpTo (d : List ℕ) : (r j k n : ℕ) → Type 0 where
+    start : {r : ℕ} → Is d rlo r → UpTo d r r 0 0
+    group : {r j k n m : ℕ} → UpTo d r j k n → Group d j k → Adds d r j k m → UpTo d r j (suc k) (n + m)
+    continued : {r j k n : ℕ} → UpTo d r j k n → byteOf d j 0 ≡ 3 + 3 * k → Is d cpt (suc j) → UpTo d r (suc j) 0 n
+
+-- FIELD TYPES (01's table): type code, bias indicator, mode, F. A type plus X'80' is its nullable form.
+pub data Allowed : (code bias mode F : ℕ) → Type 0 where
+  fixed : {F : ℕ} → F ≤ 32767 → Allowed 0x01 0 0 F
+  variable : {mode F : ℕ} → F ≤ 32767 → mode ≤ 1 → Allowed 0x02 0 mode F
+  null-terminated : {mode F : ℕ} → F ≤ 32767 → mode ≤ 1 → Allowed 0x03 0 mode F
+  short : {mode F : ℕ} → F ≤ 255 → mode ≤ 1 → Allowed 0x07 0 mode F
+  whole-number : {F : ℕ} → OneOf F (2 ∷ 4 ∷ 8 ∷ []) → Allowed 0x23 0 0 F
+  reversed-whole-number : {F : ℕ} → OneOf F (2 ∷ 4 ∷ 8 ∷ []) → Allowed 0x24 0 0 F
+  hexadecimal-float : {F : ℕ} → OneOf F (4 ∷ 8 ∷ 16 ∷ []) → Allowed 0x40 0 0 F
+  reversed-float : {bias F : ℕ} → OneOf F (4 ∷ 8 ∷ []) → bias ≤ 1 → Allowed 0x47 bias 0 F
+  float : {bias F : ℕ} → OneOf F (4 ∷ 8 ∷ []) → bias ≤ 1 → Allowed 0x48 bias 0 F
+  nullable : {code bias mode F : ℕ} → code < 0x80 → Allowed code bias mode F → Allowed (code + 0x80) bias mode F
+
+-- An SDA's type and parameters: field type in byte 3, then eight bytes, of which 2 and 3 are the bias indicator, 5 the mode, 6 and 7 the field length F.
+pub record GoodParameters (d : List ℕ) (j : ℕ) : Type 0 where
+  pub zeros : (byteOf d j 4 ≡ 0) × (byteOf d j 5 ≡ 0) × (byteOf d j 8 ≡ 0)
+  pub allowed : Allowed (byteOf d j 3) (twoBytes d (place d j + 6)) (byteOf d j 9) (twoBytes d (place d j + 10))
+
+-- THE ROWS that speak of triplet j.
+
+-- 2, Torn triplet: LENGTH below 2 or past the end.
+pub data Torn (d : List ℕ) (j : ℕ) : Type 0 where
+  below-2 : byteOf d j 0 < 2 → Torn d j
+  past-the-end : length d < place d j + byteOf d j 0 → Torn d j
+
+-- 3, Unknown construct: type not carried.
+pub record UnknownConstruct (d : List ℕ) (j : ℕ) : Type 0 where
+  pub not-carried : OneOf (byteOf d j 1) (sda ∷ rlo ∷ isd ∷ cpt ∷ []) → ⊥
+
+-- 4, Out of sequence: CPT not after RLO or CPT; ISD not first.
+pub data OutOfSequence (d : List ℕ) (j : ℕ) : Type 0 where
+  CPT-first : Is d cpt j → j ≡ 0 → OutOfSequence d j
+  CPT-after : {i : ℕ} → Is d cpt j → j ≡ suc i → byteOf d i 1 ≢ rlo → byteOf d i 1 ≢ cpt → OutOfSequence d j
+  ISD-later : Is d isd j → j ≢ 0 → OutOfSequence d j
+
+-- 5, Bad length: LENGTH against the forms, which are 12 plus the extents; 3 plus a positive multiple of 3; 5 or 6.
+pub data BadLength (d : List ℕ) (j : ℕ) : Type 0 where
+  of-SDA : Is d sda j → (OneOf (byteOf d j 0) (12 ∷ 14 ∷ 16 ∷ 18 ∷ []) → ⊥) → BadLength d j
+  of-RLO : Is d rlo j → ((k : ℕ) → byteOf d j 0 ≢ 6 + 3 * k) → BadLength d j
+  of-CPT : Is d cpt j → ((k : ℕ) → byteOf d j 0 ≢ 6 + 3 * k) → BadLength d j
+  of-ISD : Is d isd j → (OneOf (byteOf d j 0) (5 ∷ 6 ∷ []) → ⊥) → BadLength d j
+
+-- 6, Bad parameter: an SDA's or RLO's own id 0, type without rule, parameters, extent 0, CPT or ISD contents.
+pub data BadParameter (d : List ℕ) (j : ℕ) : Type 0 where
+  own-id-0 : Describes d 0 j → BadParameter d j
+  parameters : Is d sda j → (GoodParameters d j → ⊥) → BadParameter d j
+  extent-0 : (k : ℕ) → Is d sda j → 14 + 2 * k ≤ byteOf d j 0 → extent d j k ≡ 0 → BadParameter d j
+  reserved : Is d cpt j → byteOf d j 2 ≢ 0 → BadParameter d j
+  ISD-id : Is d isd j → byteOf d j 2 ≢ 0 → BadParameter d j
+  subset : Is d isd j → (OneOf (twoBytes d (place d j + 3)) (0x0000 ∷ 0x0100 ∷ []) → ⊥) → BadParameter d j
+  version : Is d isd j → 6 ≤ byteOf d j 0 → byteOf d j 5 ≢ 1 → BadParameter d j
+
+-- 7, Name taken: id described before.
+pub data NameTaken (d : List ℕ) (j : ℕ) : Type 0 where
+  taken-by : {id q : ℕ} → Describes d id j → q < j → Describes d id q → NameTaken d j
+
+-- 8, Missing reference: id not described yet.
+pub data MissingReference (d : List ℕ) (j k : ℕ) : Type 0 where
+  missing : {r : ℕ} → InRow d r j → Group d j k → ((q : ℕ) → Refers d r (reference d j k) q → ⊥) → MissingReference d j k
+
+-- 9, Not carried: repetition 0; elements taken above 0 over an RLO or an SDA without extents.
+pub data NotCarried (d : List ℕ) (j k : ℕ) : Type 0 where
+  repetition-0 : {r : ℕ} → InRow d r j → Group d j k → factor d j k ≡ 0 → NotCarried d j k
+  over-RLO : {r q : ℕ} → InRow d r j → Group d j k → 0 < taken d j k → Refers d r (reference d j k) q → Is d rlo q → NotCarried d j k
+  over-single : {r q : ℕ} → InRow d r j → Group d j k → 0 < taken d j k → Refers d r (reference d j k) q → Is d sda q → byteOf d q 0 ≡ 12
+      → NotCarried d j k
+
+-- 10, Too many items: the SDA's count, or the RLO's count up to this group, over 4,096.
+pub data TooManyItems (d : List ℕ) (j : ℕ) : Type 0 where
+  of-SDA : {n : ℕ} → Is d sda j → Counts d j n → 4096 < n → TooManyItems d j
+
+pub data TooManyUpTo (d : List ℕ) (j k : ℕ) : Type 0 where
+  of-row : {r n : ℕ} → UpTo d r j (suc k) n → 4096 < n → TooManyUpTo d j k
+
+-- The reasons of triplet j: 8, 9 and 10 belong to its group k, counted from 1, the others to the triplet itself, counted 0.
+pub data OfTriplet (d : List ℕ) (j : ℕ) : (group number : ℕ) → Type 0 where
+  torn : Torn d j → OfTriplet d j 0 2
+  unknown-construct : UnknownConstruct d j → OfTriplet d j 0 3
+  out-of-sequence : OutOfSequence d j → OfTriplet d j 0 4
+  bad-length : BadLength d j → OfTriplet d j 0 5
+  bad-parameter : BadParameter d j → OfTriplet d j 0 6
+  name-taken : NameTaken d j → OfTriplet d j 0 7
+  too-many-items : TooManyItems d j → OfTriplet d j 0 10
+  missing-reference : {k : ℕ} → MissingReference d j k → OfTriplet d j (suc k) 8
+  not-carried : {k : ℕ} → NotCarried d j k → OfTriplet d j (suc k) 9
+  too-many-up-to : {k : ℕ} → TooManyUpTo d j k → OfTriplet d j (suc k) 10
+
+-- THE ROWS that speak of an item of the field f, whose bytes and all behind them are s. Each belongs to a step of measuring: 0 null indicator, 1 L
+-- bytes, 2 L's range, 3 body.
+
+-- A field's type code is c or its nullable form.
+abbrev pub HasType : Field → (c : ℕ) → Type 0
+HasType f c = OneOf (f .code) (c ∷ (c + 0x80) ∷ [])
+
+-- The bytes behind any null indicator, of an item that is not null.
+pub data Behind (f : Field) : List ℕ → List ℕ → Type 0 where
+  no-indicator : {s : List ℕ} → f .code < 0x80 → Behind f s s
+  high-bit-0 : {b : ℕ} {s : List ℕ} → 0x80 ≤ f .code → b < 0x80 → Behind f (b ∷ s) s
+
+-- L has w bytes; where they are there, it is n, unsigned.
+pub data Length (f : Field) : (w : ℕ) → List ℕ → (n : ℕ) → Type 0 where
+  of-two : {a b : ℕ} {s : List ℕ} → HasType f 0x02 → Length f 2 (a ∷ b ∷ s) (a * 256 + b)
+  of-one : {a : ℕ} {s : List ℕ} → HasType f 0x07 → Length f 1 (a ∷ s) a
+
+-- So many bytes follow an L of n.
+pub data Sent (f : Field) (n : ℕ) : ℕ → Type 0 where
+  no-limit : f .fieldLength ≡ 0 → Sent f n n
+  value-only : 0 < f .fieldLength → f .mode ≡ 1 → Sent f n n
+  reserved : 0 < f .fieldLength → f .mode ≡ 0 → Sent f n (f .fieldLength)
+
+-- No byte among the first n is zero.
+abbrev pub NoZero : (n : ℕ) → List ℕ → Type 0
+NoZero n s = (i : ℕ) → i < n → byte s i ≢ 0
+
+-- 13, Short data: the item's next needed byte is missing. In mode 0 all bytes of an X'03' item are needed, whether a zero byte is among them or not.
+pub data ShortData (f : Field) : (step : ℕ) → List ℕ → Type 0 where
+  indicator : 0x80 ≤ f .code → ShortData f 0 []
+  length-two : {s v : List ℕ} → Behind f s v → HasType f 0x02 → length v < 2 → ShortData f 1 s
+  length-one : {s v : List ℕ} → Behind f s v → HasType f 0x07 → length v < 1 → ShortData f 1 s
+  counted : {s v : List ℕ} {w n m : ℕ} → Behind f s v → Length f w v n → Sent f n m → length v < w + m → ShortData f 3 s
+  fixed : {s v : List ℕ} (c : ℕ) → Behind f s v → HasType f c → OneOf c (0x01 ∷ 0x23 ∷ 0x24 ∷ 0x40 ∷ 0x47 ∷ 0x48 ∷ []) → length v < f .fieldLength
+      → ShortData f 3 s
+  no-limit : {s v : List ℕ} → Behind f s v → HasType f 0x03 → f .fieldLength ≡ 0 → NoZero (length v) v → ShortData f 3 s
+  not-yet : {s v : List ℕ} → Behind f s v → HasType f 0x03 → 0 < f .fieldLength → f .mode ≡ 1 → length v < f .fieldLength + 1 → NoZero (length v) v
+      → ShortData f 3 s
+  reserved : {s v : List ℕ} → Behind f s v → HasType f 0x03 → 0 < f .fieldLength → f .mode ≡ 0 → length v < f .fieldLength + 1 → ShortData f 3 s
+
+-- 14, Bad count: L negative or, with F above 0, over F.
+pub data BadCount (f : Field) : List ℕ → Type 0 where
+  negative : {s v : List ℕ} {n : ℕ} → Behind f s v → Length f 2 v n → 0x8000 ≤ n → BadCount f s
+  over-F : {s v : List ℕ} {w n : ℕ} → Behind f s v → Length f w v n → 0 < f .fieldLength → f .fieldLength < n → BadCount f s
+
+-- 15, No end: F + 1 bytes present, none zero (X'03', F above 0).
+pub data NoEnd (f : Field) : List ℕ → Type 0 where
+  none-zero : {s v : List ℕ} → Behind f s v → HasType f 0x03 → 0 < f .fieldLength → f .fieldLength + 1 ≤ length v → NoZero (f .fieldLength + 1) v
+      → NoEnd f s
+
+pub data OfItem (f : Field) (s : List ℕ) : (step number : ℕ) → Type 0 where
+  short-data : {step : ℕ} → ShortData f step s → OfItem f s step 13
+  bad-count : BadCount f s → OfItem f s 2 14
+  no-end : NoEnd f s → OfItem f s 3 15
+
+-- Item k of the fields fs, of the field f, starts at q: the items before it, by the standard's account, take the first q bytes, and `rest` follows.
+pub record StartsAt (fs : List Field) (s : List ℕ) (k : ℕ) (f : Field) (q : ℕ) (rest : List ℕ) : Type 0 where
+  pub before : List Field
+  pub after : List Field
+  pub fields : fs ≡ before ++ (f ∷ after)
+  pub number : length before ≡ k
+  pub items : List Parts
+  pub bytes : List ℕ
+  pub block : Block before items bytes
+  pub split : s ≡ bytes ++ rest
+  pub place-is : length bytes ≡ q
+
+-- The reasons of a block's fields and data. 16, Surplus: bytes after the last item.
+pub data OfItems (fs : List Field) (s : List ℕ) : (turn : List ℕ) → (number place : ℕ) → Type 0 where
+  item : {k step m q : ℕ} {f : Field} {rest : List ℕ} → StartsAt fs s k f q rest → OfItem f rest step m → OfItems fs s (5 ∷ k ∷ step ∷ []) m q
+  surplus : {xs : List Parts} {bytes : List ℕ} (rest : List ℕ) → Block fs xs bytes → s ≡ bytes ++ rest → 0 < length rest
+      → OfItems fs s (6 ∷ []) 16 (length bytes)
+
+-- THE CALLS: each reason with its turn in 01's order, its number and its place. The order is 1; triplets left to right, each by rising number, with 8, 9,
+-- 10 taken group by group; 11; 12 (list call only); then items in order, each by its steps; 16; 17; 18.
+pub data OfDescriptor (d : List ℕ) : (turn : List ℕ) → (number place : ℕ) → Type 0 where
+  oversize : 4096 < length d → OfDescriptor d (1 ∷ []) 1 0
+  triplet : {j g m : ℕ} → There d j → OfTriplet d j g m → OfDescriptor d (2 ∷ j ∷ g ∷ m ∷ []) m (place d j)
+  nothing-described : ((id j : ℕ) → Describes d id j → ⊥) → OfDescriptor d (3 ∷ []) 11 (length d)
+
+-- The unfolding of the descriptor has the block's fields.
+pub data OfBlock (d s : List ℕ) : (turn : List ℕ) → (number place : ℕ) → Type 0 where
+  descriptor : {t : List ℕ} {m p : ℕ} → OfDescriptor d t m p → OfBlock d s t m p
+  oversize : 32768 < length s → OfBlock d s (1 ∷ []) 1 0
+  items : {t : List ℕ} {m p : ℕ} → OfItems (unfolded d) s t m p → OfBlock d s t m p
+
+-- The list call, with a list of so many entries.
+pub data OfList (d s : List ℕ) (entries : ℕ) : (turn : List ℕ) → (number place : ℕ) → Type 0 where
+  block : {t : List ℕ} {m p : ℕ} → OfBlock d s t m p → OfList d s entries t m p
+  small-list : entries < 2 + 2 * length (unfolded d) → OfList d s entries (4 ∷ []) 12 0
+
+-- The state call, and lending, for item k.
+pub data OfState (d s : List ℕ) (k : ℕ) : (turn : List ℕ) → (number place : ℕ) → Type 0 where
+  block : {t : List ℕ} {m p : ℕ} → OfBlock d s t m p → OfState d s k t m p
+  no-such-item : length (unfolded d) ≤ k → OfState d s k (7 ∷ []) 17 0
+
+-- The whole-number read of item k. 18, Wrong kind: of another type, null or not.
+pub data OfWholeNumber (d s : List ℕ) (k : ℕ) : (turn : List ℕ) → (number place : ℕ) → Type 0 where
+  state : {t : List ℕ} {m p : ℕ} → OfState d s k t m p → OfWholeNumber d s k t m p
+  wrong-kind : {q : ℕ} {f : Field} {rest : List ℕ} → StartsAt (unfolded d) s k f q rest → (HasType f 0x23 → ⊥) → (HasType f 0x24 → ⊥)
+      → OfWholeNumber d s k (8 ∷ []) 18 q
+
+-- A turn comes earlier by the first number in which it differs.
+pub data Earlier : List ℕ → List ℕ → Type 0 where
+  here : {a b : ℕ} {t u : List ℕ} → a < b → Earlier (a ∷ t) (b ∷ u)
+  further : {a : ℕ} {t u : List ℕ} → Earlier t u → Earlier (a ∷ t) (a ∷ u)
+
+-- m at p is the first of the reasons R: every other one has a later turn.
+pub record First (R : List ℕ → ℕ → ℕ → Type 0) (m p : ℕ) : Type 0 where
+  pub turn : List ℕ
+  pub reason : R turn m p
+  pub others-later : (t : List ℕ) (n q : ℕ) → R t n q → Earlier turn t ⊎ ((t ≡ turn) × (n ≡ m) × (q ≡ p))
