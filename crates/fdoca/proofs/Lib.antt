@@ -17,3 +17,5 @@ pub mod Fields
 pub mod Numbers
 pub mod Demands
 pub mod Calls
+pub mod TripletBytes
+pub mod TypeRows

@@ -27,13 +27,16 @@ unfoldable pub place : List ℕ → (j : ℕ) → ℕ
 place d zero = 0
 place d (suc j) = place d j + byte d (place d j)
 
+abbrev pub LENGTH : List ℕ → (j : ℕ) → ℕ
+LENGTH d j = byte d (place d j)
+
 -- Byte i of triplet j.
 abbrev pub byteOf : List ℕ → (j i : ℕ) → ℕ
 byteOf d j i = byte d (place d j + i)
 
 pub record Whole (d : List ℕ) (j : ℕ) : Type 0 where
-  pub long : 2 ≤ byteOf d j 0
-  pub fits : place d j + byteOf d j 0 ≤ length d
+  pub long : 2 ≤ LENGTH d j
+  pub fits : place d j + LENGTH d j ≤ length d
 
 -- Triplet j is there: those before it are whole, and bytes are left.
 pub record There (d : List ℕ) (j : ℕ) : Type 0 where
@@ -70,7 +73,7 @@ pub record InRow (d : List ℕ) (r j : ℕ) : Type 0 where
 
 -- Group k of triplet j lies within its LENGTH: from byte 3, three bytes each.
 abbrev pub Group : List ℕ → (j k : ℕ) → Type 0
-Group d j k = 6 + 3 * k ≤ byteOf d j 0
+Group d j k = 6 + 3 * k ≤ LENGTH d j
 
 abbrev pub reference : List ℕ → (j k : ℕ) → ℕ
 reference d j k = byteOf d j (3 + 3 * k)
@@ -92,16 +95,16 @@ extent d q k = twoBytes d (place d q + (12 + 2 * k))
 
 -- The product of all extents but the highest, of an SDA with one, two or three.
 pub data Lower (d : List ℕ) (q : ℕ) : ℕ → Type 0 where
-  one : byteOf d q 0 ≡ 14 → Lower d q 1
-  two : byteOf d q 0 ≡ 16 → Lower d q (extent d q 1)
-  three : byteOf d q 0 ≡ 18 → Lower d q (extent d q 1 * extent d q 2)
+  one : LENGTH d q ≡ 14 → Lower d q 1
+  two : LENGTH d q ≡ 16 → Lower d q (extent d q 1)
+  three : LENGTH d q ≡ 18 → Lower d q (extent d q 1 * extent d q 2)
 
 mutual
   -- The SDA or RLO q stands for n items: an SDA for the product of its extents, or one without; an RLO for those of all its groups.
   pub data Counts (d : List ℕ) : (q n : ℕ) → Type 0 where
-    single : {q : ℕ} → Is d sda q → byteOf d q 0 ≡ 12 → Counts d q 1
+    single : {q : ℕ} → Is d sda q → LENGTH d q ≡ 12 → Counts d q 1
     array : {q l : ℕ} → Is d sda q → Lower d q l → Counts d q (extent d q 0 * l)
-    row : {q j k n : ℕ} → UpTo d q j k n → byteOf d j 0 ≡ 3 + 3 * k → (Is d cpt (suc j) → ⊥) → Counts d q n
+    row : {q j k n : ℕ} → UpTo d q j k n → LENGTH d j ≡ 3 + 3 * k → (Is d cpt (suc j) → ⊥) → Counts d q n
 
   -- Group k of triplet j adds n items to the row of the RLO r. Elements taken 0 keeps the lower triplet as it is; another number replaces the highest
   -- extent of an SDA.
@@ -114,7 +117,7 @@ mutual
   pub data UpTo (d : List ℕ) : (r j k n : ℕ) → Type 0 where
     start : {r : ℕ} → Is d rlo r → UpTo d r r 0 0
     group : {r j k n m : ℕ} → UpTo d r j k n → Group d j k → Adds d r j k m → UpTo d r j (suc k) (n + m)
-    continued : {r j k n : ℕ} → UpTo d r j k n → byteOf d j 0 ≡ 3 + 3 * k → Is d cpt (suc j) → UpTo d r (suc j) 0 n
+    continued : {r j k n : ℕ} → UpTo d r j k n → LENGTH d j ≡ 3 + 3 * k → Is d cpt (suc j) → UpTo d r (suc j) 0 n
 
 -- FIELD TYPES (01's table): type code, bias indicator, mode, F. A type plus X'80' is its nullable form.
 pub data Allowed : (code bias mode F : ℕ) → Type 0 where
@@ -138,8 +141,8 @@ pub record GoodParameters (d : List ℕ) (j : ℕ) : Type 0 where
 
 -- 2, Torn triplet: LENGTH below 2 or past the end.
 pub data Torn (d : List ℕ) (j : ℕ) : Type 0 where
-  below-2 : byteOf d j 0 < 2 → Torn d j
-  past-the-end : length d < place d j + byteOf d j 0 → Torn d j
+  below-2 : LENGTH d j < 2 → Torn d j
+  past-the-end : length d < place d j + LENGTH d j → Torn d j
 
 -- 3, Unknown construct: type not carried.
 pub record UnknownConstruct (d : List ℕ) (j : ℕ) : Type 0 where
@@ -153,20 +156,20 @@ pub data OutOfSequence (d : List ℕ) (j : ℕ) : Type 0 where
 
 -- 5, Bad length: LENGTH against the forms, which are 12 plus the extents; 3 plus a positive multiple of 3; 5 or 6.
 pub data BadLength (d : List ℕ) (j : ℕ) : Type 0 where
-  of-SDA : Is d sda j → (OneOf (byteOf d j 0) (12 ∷ 14 ∷ 16 ∷ 18 ∷ []) → ⊥) → BadLength d j
-  of-RLO : Is d rlo j → ((k : ℕ) → byteOf d j 0 ≢ 6 + 3 * k) → BadLength d j
-  of-CPT : Is d cpt j → ((k : ℕ) → byteOf d j 0 ≢ 6 + 3 * k) → BadLength d j
-  of-ISD : Is d isd j → (OneOf (byteOf d j 0) (5 ∷ 6 ∷ []) → ⊥) → BadLength d j
+  of-SDA : Is d sda j → (OneOf (LENGTH d j) (12 ∷ 14 ∷ 16 ∷ 18 ∷ []) → ⊥) → BadLength d j
+  of-RLO : Is d rlo j → ((k : ℕ) → LENGTH d j ≢ 6 + 3 * k) → BadLength d j
+  of-CPT : Is d cpt j → ((k : ℕ) → LENGTH d j ≢ 6 + 3 * k) → BadLength d j
+  of-ISD : Is d isd j → (OneOf (LENGTH d j) (5 ∷ 6 ∷ []) → ⊥) → BadLength d j
 
 -- 6, Bad parameter: an SDA's or RLO's own id 0, type without rule, parameters, extent 0, CPT or ISD contents.
 pub data BadParameter (d : List ℕ) (j : ℕ) : Type 0 where
   own-id-0 : Describes d 0 j → BadParameter d j
   parameters : Is d sda j → (GoodParameters d j → ⊥) → BadParameter d j
-  extent-0 : (k : ℕ) → Is d sda j → 14 + 2 * k ≤ byteOf d j 0 → extent d j k ≡ 0 → BadParameter d j
+  extent-0 : (k : ℕ) → Is d sda j → 14 + 2 * k ≤ LENGTH d j → extent d j k ≡ 0 → BadParameter d j
   reserved : Is d cpt j → byteOf d j 2 ≢ 0 → BadParameter d j
   ISD-id : Is d isd j → byteOf d j 2 ≢ 0 → BadParameter d j
   subset : Is d isd j → (OneOf (twoBytes d (place d j + 3)) (0x0000 ∷ 0x0100 ∷ []) → ⊥) → BadParameter d j
-  version : Is d isd j → 6 ≤ byteOf d j 0 → byteOf d j 5 ≢ 1 → BadParameter d j
+  version : Is d isd j → 6 ≤ LENGTH d j → byteOf d j 5 ≢ 1 → BadParameter d j
 
 -- 7, Name taken: id described before.
 pub data NameTaken (d : List ℕ) (j : ℕ) : Type 0 where
@@ -180,7 +183,7 @@ pub data MissingReference (d : List ℕ) (j k : ℕ) : Type 0 where
 pub data NotCarried (d : List ℕ) (j k : ℕ) : Type 0 where
   repetition-0 : {r : ℕ} → InRow d r j → Group d j k → factor d j k ≡ 0 → NotCarried d j k
   over-RLO : {r q : ℕ} → InRow d r j → Group d j k → 0 < taken d j k → Refers d r (reference d j k) q → Is d rlo q → NotCarried d j k
-  over-single : {r q : ℕ} → InRow d r j → Group d j k → 0 < taken d j k → Refers d r (reference d j k) q → Is d sda q → byteOf d q 0 ≡ 12
+  over-single : {r q : ℕ} → InRow d r j → Group d j k → 0 < taken d j k → Refers d r (reference d j k) q → Is d sda q → LENGTH d q ≡ 12
       → NotCarried d j k
 
 -- 10, Too many items: the SDA's count, or the RLO's count up to this group, over 4,096.
@@ -216,9 +219,9 @@ pub data Behind (f : Field) : List ℕ → List ℕ → Type 0 where
   high-bit-0 : {b : ℕ} {s : List ℕ} → 0x80 ≤ f .code → b < 0x80 → Behind f (b ∷ s) s
 
 -- L has w bytes; where they are there, it is n, unsigned.
-pub data Length (f : Field) : (w : ℕ) → List ℕ → (n : ℕ) → Type 0 where
-  of-two : {a b : ℕ} {s : List ℕ} → HasType f 0x02 → Length f 2 (a ∷ b ∷ s) (a * 256 + b)
-  of-one : {a : ℕ} {s : List ℕ} → HasType f 0x07 → Length f 1 (a ∷ s) a
+pub data L (f : Field) : (w : ℕ) → List ℕ → (n : ℕ) → Type 0 where
+  of-two : {a b : ℕ} {s : List ℕ} → HasType f 0x02 → L f 2 (a ∷ b ∷ s) (a * 256 + b)
+  of-one : {a : ℕ} {s : List ℕ} → HasType f 0x07 → L f 1 (a ∷ s) a
 
 -- So many bytes follow an L of n.
 pub data Sent (f : Field) (n : ℕ) : ℕ → Type 0 where
@@ -235,7 +238,7 @@ pub data ShortData (f : Field) : (step : ℕ) → List ℕ → Type 0 where
   indicator : 0x80 ≤ f .code → ShortData f 0 []
   length-two : {s v : List ℕ} → Behind f s v → HasType f 0x02 → length v < 2 → ShortData f 1 s
   length-one : {s v : List ℕ} → Behind f s v → HasType f 0x07 → length v < 1 → ShortData f 1 s
-  counted : {s v : List ℕ} {w n m : ℕ} → Behind f s v → Length f w v n → Sent f n m → length v < w + m → ShortData f 3 s
+  counted : {s v : List ℕ} {w n m : ℕ} → Behind f s v → L f w v n → Sent f n m → length v < w + m → ShortData f 3 s
   fixed : {s v : List ℕ} (c : ℕ) → Behind f s v → HasType f c → OneOf c (0x01 ∷ 0x23 ∷ 0x24 ∷ 0x40 ∷ 0x47 ∷ 0x48 ∷ []) → length v < f .fieldLength
       → ShortData f 3 s
   no-limit : {s v : List ℕ} → Behind f s v → HasType f 0x03 → f .fieldLength ≡ 0 → NoZero (length v) v → ShortData f 3 s
@@ -245,8 +248,8 @@ pub data ShortData (f : Field) : (step : ℕ) → List ℕ → Type 0 where
 
 -- 14, Bad count: L negative or, with F above 0, over F.
 pub data BadCount (f : Field) : List ℕ → Type 0 where
-  negative : {s v : List ℕ} {n : ℕ} → Behind f s v → Length f 2 v n → 0x8000 ≤ n → BadCount f s
-  over-F : {s v : List ℕ} {w n : ℕ} → Behind f s v → Length f w v n → 0 < f .fieldLength → f .fieldLength < n → BadCount f s
+  negative : {s v : List ℕ} {n : ℕ} → Behind f s v → L f 2 v n → 0x8000 ≤ n → BadCount f s
+  over-F : {s v : List ℕ} {w n : ℕ} → Behind f s v → L f w v n → 0 < f .fieldLength → f .fieldLength < n → BadCount f s
 
 -- 15, No end: F + 1 bytes present, none zero (X'03', F above 0).
 pub data NoEnd (f : Field) : List ℕ → Type 0 where

@@ -1,0 +1,226 @@
+-- What the table of rules allows is what document 01's table of field types allows: type code, bias indicator, mode and field length.
+-- Assumes nothing.
+use mathlib.Core.Path.{_≡_, refl, sym, ap, _∙_}
+use Prim.Native.Nat.{ℕ, zero, suc, _+_, _-_, _≤_, _<_}
+use native.Mathlib.Omega.{arith}
+use mathlib.Core.Bool.{Bool, true, false, _&&_, true≢false}
+use mathlib.Core.List.{List, [], _∷_}
+use mathlib.Core.Option.{Option, none, some}
+use lib.Dec.{leb, ltb, eqb}
+use lib.ListN.{getD}
+use borrow.Author.Tests.{ltb-true, leb-true, leb-false, le-leb, lt-leb, eqb-true, eqb-false, eq-eqb}
+use Rattle.fdoca.specs.Basics.{if_then_else_, elem, lookup}
+use Rattle.fdoca.specs.FieldType.{FieldType, fixedBytes, variableBytes, terminatedBytes, shortBytes, integer, reversedInteger, hexFloat, reversedFloat, binaryFloat, types, nullable, plain, typeOf, Rule, allows, ruleOf}
+use Rattle.fdoca.specs.Triplet.{biasOf, modeOf, lengthOf}
+use Rattle.fdoca.specs.Check.{most, goodParameters, goodType}
+use Rattle.fdoca.specs.Reasons as R
+use Rattle.fdoca.specs.Reasons.{OneOf, here, there, Allowed, fixed, variable, null-terminated, short, whole-number, reversed-whole-number, hexadecimal-float, reversed-float, float}
+use Rattle.fdoca.proofs.Tests.{and-left, and-right}
+
+-- a number that is among others, by the test and by the relation
+pub elem-in : (n : ℕ) (ns : List ℕ) → elem n ns ≡ true → OneOf n ns
+elem-in n [] h = absurd (true≢false (sym h))
+elem-in n (m ∷ ns) h = go (eqb n m) refl h (λ k. elem-in n ns k)
+  where
+    go : (b : Bool) → eqb n m ≡ b → (if b then true else elem n ns) ≡ true → (elem n ns ≡ true → OneOf n ns) → OneOf n (m ∷ ns)
+    go true e k ih = here (eqb-true n m e)
+    go false e k ih = there (ih k)
+
+pub in-elem : {n : ℕ} {ns : List ℕ} → OneOf n ns → elem n ns ≡ true
+in-elem (here {n = n} {m = m} e) = rw (eq-eqb n m e)
+in-elem (there {n = n} {m = m} {ns = ns} h) = go (eqb n m) (in-elem h)
+  where
+    go : (b : Bool) → elem n ns ≡ true → (if b then true else elem n ns) ≡ true
+    go true k = refl
+    go false k = k
+
+pub elem-out : (n : ℕ) (ns : List ℕ) → elem n ns ≡ false → OneOf n ns → ⊥
+elem-out n ns h k = true≢false (sym (in-elem k) ∙ h)
+
+-- an entry of an association list
+pub data Entry {A : Type 0} (n : ℕ) (a : A) : List (ℕ × A) → Type 0 where
+  first : {e : ℕ × A} {es : List (ℕ × A)} → n ≡ e .0 → a ≡ e .1 → Entry n a (e ∷ es)
+  later : {e : ℕ × A} {es : List (ℕ × A)} → Entry n a es → Entry n a (e ∷ es)
+
+pub looked-up : {A : Type 0} (n : ℕ) (a : A) (es : List (ℕ × A)) → lookup n es ≡ some a → Entry n a es
+looked-up n a [] h = absurd (let z : _≡_ {A = ℕ} 0 1 = cc in let w : ⊥ = omega arith in w)
+looked-up n a (e ∷ es) h = go (eqb n (e .0)) refl h (λ k. looked-up n a es k)
+  where
+    go : (b : Bool) → eqb n (e .0) ≡ b → (if b then some (e .1) else lookup n es) ≡ some a → (lookup n es ≡ some a → Entry n a es) → Entry n a (e ∷ es)
+    go true t k ih = let q : a ≡ e .1 = cc in first (eqb-true n (e .0) t) q
+    go false t k ih = later (ih k)
+
+-- the plain type code of a type
+abbrev pub plainCode : FieldType → ℕ
+plainCode fixedBytes = 0x01
+plainCode variableBytes = 0x02
+plainCode terminatedBytes = 0x03
+plainCode shortBytes = 0x07
+plainCode integer = 0x23
+plainCode reversedInteger = 0x24
+plainCode hexFloat = 0x40
+plainCode reversedFloat = 0x47
+plainCode binaryFloat = 0x48
+
+-- the table of types has each type at its code, which is below 128
+abbrev fits : ℕ × FieldType → Bool
+fits e = eqb (e .0) (plainCode (e .1)) && ltb (e .0) 128
+
+abbrev all : List (ℕ × FieldType) → Bool
+all [] = true
+all (e ∷ es) = fits e && all es
+
+entry-fits : {c : ℕ} {T : FieldType} {es : List (ℕ × FieldType)} → Entry c T es → all es ≡ true → fits (c, T) ≡ true
+entry-fits (first {e = e} {es = es} p q) h = rw (p, q) (and-left (fits e) (all es) h)
+entry-fits (later {e = e} {es = es} k) h = entry-fits k (and-right (fits e) (all es) h)
+
+plain-code : (c : ℕ) (T : FieldType) → lookup c types ≡ some T → (c ≡ plainCode T) × (c < 128)
+plain-code c T h =
+    let f : fits (c, T) ≡ true = entry-fits (looked-up c T types h) refl in
+    (eqb-true c (plainCode T) (and-left (eqb c (plainCode T)) (ltb c 128) f), ltb-true c 128 (and-right (eqb c (plainCode T)) (ltb c 128) f))
+
+-- A code stands for a type exactly where it is the type's plain code or that plus X'80'.
+pub data Coded (T : FieldType) : ℕ → Type 0 where
+  as-plain : {c : ℕ} → c ≡ plainCode T → c < 128 → Coded T c
+  as-nullable : {b c : ℕ} → b ≡ plainCode T → b < 128 → c ≡ b + 128 → Coded T c
+
+pub code-of-type : (c : ℕ) (T : FieldType) → typeOf c ≡ some T → Coded T c
+unfolding typeOf
+code-of-type c T = go (leb 128 c) refl
+  where
+    go : (b : Bool) → leb 128 c ≡ b → lookup (if b then c - 128 else c) types ≡ some T → Coded T c
+    go true t h = let q = plain-code (c - 128) T h in as-nullable {c = c} (q .0) (q .1) (omega (arith, leb-true 128 c t))
+    go false t h = let q = plain-code c T h in as-plain (q .0) (q .1)
+
+pub type-of-plain : (T : FieldType) → lookup (plainCode T) types ≡ some T
+type-of-plain fixedBytes = refl
+type-of-plain variableBytes = refl
+type-of-plain terminatedBytes = refl
+type-of-plain shortBytes = refl
+type-of-plain integer = refl
+type-of-plain reversedInteger = refl
+type-of-plain hexFloat = refl
+type-of-plain reversedFloat = refl
+type-of-plain binaryFloat = refl
+
+pub type-of-code : {c : ℕ} {T : FieldType} → Coded T c → typeOf c ≡ some T
+unfolding typeOf
+type-of-code {c} {T} (as-plain e l) = rw (lt-leb 128 c l, e) (type-of-plain T)
+type-of-code {c} {T} (as-nullable {b = b} e l q) =
+    let k : c - 128 ≡ b = omega arith in
+    rw (le-leb 128 c (omega arith), k, e) (type-of-plain T)
+
+-- the parts of good parameters
+pub record Good (r : Rule) (ps : List ℕ) : Type 0 where
+  pub zeros : (getD ps 0 0 ≡ 0) × (getD ps 1 0 ≡ 0) × (getD ps 4 0 ≡ 0)
+  pub bias : biasOf ps ≤ most (r .hasBias)
+  pub mode : modeOf ps ≤ most (r .hasMode)
+  pub length-allowed : allows (r .lengths) (lengthOf ps) ≡ true
+
+module _ (r : Rule) (ps : List ℕ) where
+  pub good-parts : goodParameters r ps ≡ true → Good r ps
+  unfolding goodParameters
+  good-parts h =
+      let z₀ = eqb (getD ps 0 0) 0 in
+      let z₁ = eqb (getD ps 1 0) 0 in
+      let b = leb (biasOf ps) (most (r .hasBias)) in
+      let z₄ = eqb (getD ps 4 0) 0 in
+      let m = leb (modeOf ps) (most (r .hasMode)) in
+      let l = allows (r .lengths) (lengthOf ps) in
+      let h₅ : (z₀ && z₁ && b && z₄ && m) ≡ true = and-left (z₀ && z₁ && b && z₄ && m) l h in
+      let h₄ : (z₀ && z₁ && b && z₄) ≡ true = and-left (z₀ && z₁ && b && z₄) m h₅ in
+      let h₃ : (z₀ && z₁ && b) ≡ true = and-left (z₀ && z₁ && b) z₄ h₄ in
+      let h₂ : (z₀ && z₁) ≡ true = and-left (z₀ && z₁) b h₃ in
+      record {
+        zeros = (eqb-true _ 0 (and-left z₀ z₁ h₂), eqb-true _ 0 (and-right z₀ z₁ h₂), eqb-true _ 0 (and-right (z₀ && z₁ && b) z₄ h₄));
+        bias = leb-true _ _ (and-right (z₀ && z₁) b h₃);
+        mode = leb-true _ _ (and-right (z₀ && z₁ && b && z₄) m h₅);
+        length-allowed = and-right (z₀ && z₁ && b && z₄ && m) l h;
+      }
+
+  pub parts-good : Good r ps → goodParameters r ps ≡ true
+  unfolding goodParameters
+  parts-good g =
+      rw (
+        eq-eqb _ 0 (g .zeros .0),
+        eq-eqb _ 0 (g .zeros .1),
+        le-leb _ _ (g .bias),
+        eq-eqb _ 0 (g .zeros .2),
+        le-leb _ _ (g .mode),
+        g .length-allowed,
+      )
+
+-- bias indicator, mode and field length of a plain type, by its rule and by 01's table
+module _ (bias mode F : ℕ) where
+  record ByRule (T : FieldType) : Type 0 where
+    bias-is : bias ≤ most (ruleOf T .hasBias)
+    mode-is : mode ≤ most (ruleOf T .hasMode)
+    length-is : allows (ruleOf T .lengths) F ≡ true
+
+  -- no mode and no bias indicator
+  bare : {c : ℕ} → bias ≤ 0 → mode ≤ 0 → Allowed c 0 0 F → Allowed c bias mode F
+  bare b m a =
+      let e₁ : bias ≡ 0 = omega arith in
+      let e₂ : mode ≡ 0 = omega arith in
+      rw (e₁, e₂) a
+
+  no-bias : {c : ℕ} → bias ≤ 0 → Allowed c 0 mode F → Allowed c bias mode F
+  no-bias b a = let e : bias ≡ 0 = omega arith in rw e a
+
+  no-mode : {c : ℕ} → mode ≤ 0 → Allowed c bias 0 F → Allowed c bias mode F
+  no-mode m a = let e : mode ≡ 0 = omega arith in rw e a
+
+  allowed : (T : FieldType) → ByRule T → Allowed (plainCode T) bias mode F
+  unfolding ruleOf
+  allowed fixedBytes h = bare (h .bias-is) (h .mode-is) (fixed (leb-true F 32767 (h .length-is)))
+  allowed variableBytes h = no-bias (h .bias-is) (variable (leb-true F 32767 (h .length-is)) (h .mode-is))
+  allowed terminatedBytes h = no-bias (h .bias-is) (null-terminated (leb-true F 32767 (h .length-is)) (h .mode-is))
+  allowed shortBytes h = no-bias (h .bias-is) (short (leb-true F 255 (h .length-is)) (h .mode-is))
+  allowed integer h = bare (h .bias-is) (h .mode-is) (whole-number (elem-in F (2 ∷ 4 ∷ 8 ∷ []) (h .length-is)))
+  allowed reversedInteger h = bare (h .bias-is) (h .mode-is) (reversed-whole-number (elem-in F (2 ∷ 4 ∷ 8 ∷ []) (h .length-is)))
+  allowed hexFloat h = bare (h .bias-is) (h .mode-is) (hexadecimal-float (elem-in F (4 ∷ 8 ∷ 16 ∷ []) (h .length-is)))
+  allowed reversedFloat h = no-mode (h .mode-is) (reversed-float (elem-in F (4 ∷ 8 ∷ []) (h .length-is)) (h .bias-is))
+  allowed binaryFloat h = no-mode (h .mode-is) (float (elem-in F (4 ∷ 8 ∷ []) (h .length-is)) (h .bias-is))
+
+-- The rule of a code's type allows what the table does,
+pub rule-allows : (c bias mode F : ℕ) (T : FieldType) → typeOf c ≡ some T → bias ≤ most (ruleOf T .hasBias) → mode ≤ most (ruleOf T .hasMode)
+    → allows (ruleOf T .lengths) F ≡ true → Allowed c bias mode F
+rule-allows c bias mode F T e b m l = go (code-of-type c T e)
+  where
+    h : Allowed (plainCode T) bias mode F
+    h = allowed bias mode F T (record { bias-is = b; mode-is = m; length-is = l })
+
+    go : Coded T c → Allowed c bias mode F
+    go (as-plain q k) = rw q h
+    go (as-nullable q k r) = rw (r, q) (R.nullable (rw q at k) h)
+
+-- and the table what the rule does.
+pub record ByTable (c bias mode F : ℕ) : Type 0 where
+  pub type : FieldType
+  pub typed : Coded type c
+  pub bias-is : bias ≤ most (ruleOf type .hasBias)
+  pub mode-is : mode ≤ most (ruleOf type .hasMode)
+  pub length-is : allows (ruleOf type .lengths) F ≡ true
+
+made : {c bias mode F : ℕ} (T : FieldType) → c ≡ plainCode T → c < 128 → bias ≤ most (ruleOf T .hasBias) → mode ≤ most (ruleOf T .hasMode)
+    → allows (ruleOf T .lengths) F ≡ true → ByTable c bias mode F
+made T e k b m l = record { type = T; typed = as-plain e k; bias-is = b; mode-is = m; length-is = l }
+
+pub table-allows : {c bias mode F : ℕ} → Allowed c bias mode F → ByTable c bias mode F
+unfolding ruleOf
+table-allows (fixed {F = F} h) = made fixedBytes refl (omega arith) (omega arith) (omega arith) (le-leb F 32767 h)
+table-allows (variable {F = F} h m) = made variableBytes refl (omega arith) (omega arith) m (le-leb F 32767 h)
+table-allows (null-terminated {F = F} h m) = made terminatedBytes refl (omega arith) (omega arith) m (le-leb F 32767 h)
+table-allows (short {F = F} h m) = made shortBytes refl (omega arith) (omega arith) m (le-leb F 255 h)
+table-allows (whole-number h) = made integer refl (omega arith) (omega arith) (omega arith) (in-elem h)
+table-allows (reversed-whole-number h) = made reversedInteger refl (omega arith) (omega arith) (omega arith) (in-elem h)
+table-allows (hexadecimal-float h) = made hexFloat refl (omega arith) (omega arith) (omega arith) (in-elem h)
+table-allows (reversed-float h b) = made reversedFloat refl (omega arith) b (omega arith) (in-elem h)
+table-allows (float h b) = made binaryFloat refl (omega arith) b (omega arith) (in-elem h)
+table-allows (R.nullable {code = c} k h) =
+    let t = table-allows h in
+    record { type = t .type; typed = go (t .typed); bias-is = t .bias-is; mode-is = t .mode-is; length-is = t .length-is }
+  where
+    go : {T : FieldType} → Coded T c → Coded T (c + 0x80)
+    go (as-plain e l) = as-nullable e l refl
+    go (as-nullable e l q) = absurd (let z : ⊥ = omega arith in z)
