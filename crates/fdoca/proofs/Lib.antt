@@ -19,3 +19,4 @@ pub mod Demands
 pub mod Calls
 pub mod TripletBytes
 pub mod TypeRows
+pub mod TripletTests

@@ -154,12 +154,15 @@ pub data OutOfSequence (d : List ℕ) (j : ℕ) : Type 0 where
   CPT-after : {i : ℕ} → Is d cpt j → j ≡ suc i → byteOf d i 1 ≢ rlo → byteOf d i 1 ≢ cpt → OutOfSequence d j
   ISD-later : Is d isd j → j ≢ 0 → OutOfSequence d j
 
--- 5, Bad length: LENGTH against the forms, which are 12 plus the extents; 3 plus a positive multiple of 3; 5 or 6.
-pub data BadLength (d : List ℕ) (j : ℕ) : Type 0 where
-  of-SDA : Is d sda j → (OneOf (LENGTH d j) (12 ∷ 14 ∷ 16 ∷ 18 ∷ []) → ⊥) → BadLength d j
-  of-RLO : Is d rlo j → ((k : ℕ) → LENGTH d j ≢ 6 + 3 * k) → BadLength d j
-  of-CPT : Is d cpt j → ((k : ℕ) → LENGTH d j ≢ 6 + 3 * k) → BadLength d j
-  of-ISD : Is d isd j → (OneOf (LENGTH d j) (5 ∷ 6 ∷ []) → ⊥) → BadLength d j
+-- 5, Bad length: LENGTH against the forms, which are 12 plus at most three extents; 3 plus a positive multiple of 3; 5 or 6.
+pub data Form : (construct size : ℕ) → Type 0 where
+  SDA : {n : ℕ} → OneOf n (12 ∷ 14 ∷ 16 ∷ 18 ∷ []) → Form sda n
+  RLO : (k : ℕ) → Form rlo (6 + 3 * k)
+  CPT : (k : ℕ) → Form cpt (6 + 3 * k)
+  ISD : {n : ℕ} → OneOf n (5 ∷ 6 ∷ []) → Form isd n
+
+pub record BadLength (d : List ℕ) (j : ℕ) : Type 0 where
+  pub no-form : Form (byteOf d j 1) (LENGTH d j) → ⊥
 
 -- 6, Bad parameter: an SDA's or RLO's own id 0, type without rule, parameters, extent 0, CPT or ISD contents.
 pub data BadParameter (d : List ℕ) (j : ℕ) : Type 0 where
