@@ -20,3 +20,4 @@ pub mod Calls
 pub mod TripletBytes
 pub mod TypeRows
 pub mod TripletTests
+pub mod Counting

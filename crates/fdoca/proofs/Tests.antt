@@ -2,6 +2,7 @@
 -- Assumes nothing.
 use mathlib.Core.Path.{_≡_, refl, sym}
 use Prim.Native.Nat.{ℕ, _≤_, _<_}
+use native.Mathlib.Omega.{arith}
 use mathlib.Core.Bool.{Bool, true, false, _&&_, true≢false}
 use lib.Dec.{leb, ltb, eqb}
 use borrow.Author.Tests.{lt-ltb, le-ltb, le-leb, lt-leb, eq-eqb, ne-eqb, ltb-true, ltb-false, leb-true, leb-false, eqb-true, eqb-false}
@@ -27,6 +28,15 @@ module _ {A : Type 0} (P : A → Type 0) (a b : ℕ) {x y : A} where
 
   pub by-eq : (a ≡ b → P x) → ((a ≡ b → ⊥) → P y) → P (if eqb a b then x else y)
   by-eq f g = by-test P (eqb a b) (λ t. f (eqb-true a b t)) (λ t. g (eqb-false a b t))
+
+-- two numbers, by how they stand to each other
+pub by-order : {P : Type 0} (a b : ℕ) → (a < b → P) → (a ≡ b → P) → (b < a → P) → P
+by-order {P} a b f g h = go (ltb a b) (ltb b a) refl refl
+  where
+    go : (x y : Bool) → ltb a b ≡ x → ltb b a ≡ y → P
+    go true y t u = f (ltb-true a b t)
+    go false true t u = h (ltb-true b a u)
+    go false false t u = g (omega (arith, ltb-false a b t, ltb-false b a u))
 
 -- both parts of a test that holds
 pub and-left : (a b : Bool) → (a && b) ≡ true → a ≡ true
