@@ -30,7 +30,7 @@ module _ {d : List ℕ} where
   lower-same (three e) (two h) = absurd (let z : ⊥ = omega arith in z)
   lower-same (three e) (three h) = refl
 
-  lower-long : {q l : ℕ} → Lower d q l → LENGTH d q ≢ 12
+  pub lower-long : {q l : ℕ} → Lower d q l → LENGTH d q ≢ 12
   lower-long (one e) h = omega arith
   lower-long (two e) h = omega arith
   lower-long (three e) h = omega arith

@@ -21,3 +21,5 @@ pub mod TripletBytes
 pub mod TypeRows
 pub mod TripletTests
 pub mod Counting
+pub mod TripletRows
+pub mod Groups
