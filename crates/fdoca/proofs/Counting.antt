@@ -1,12 +1,12 @@
 -- The counts of document 01's table are unique where no id is described twice: an SDA or RLO stands for one number of items, and so does the beginning
 -- of a row.
 -- Assumes nothing.
-use mathlib.Core.Path.{_≡_, refl, sym, ap, _∙_}
-use mathlib.Core.Logic.{_≢_, _⊎_, inl, inr}
-use Prim.Native.Nat.{ℕ, zero, suc, _+_, _*_, _≤_, _<_}
+use mathlib.Core.Path.{_≡_, refl, ap}
+use mathlib.Core.Logic.{_≢_}
+use Prim.Native.Nat.{ℕ, zero, suc, _*_, _≤_, _<_}
 use native.Mathlib.Omega.{arith}
 use mathlib.Core.List.{List}
-use Rattle.fdoca.specs.Reasons.{place, LENGTH, byteOf, Whole, There, sda, rlo, cpt, Is, Describes, InRow, reference, taken, factor, Refers, extent, Lower, one, two, three, Counts, single, array, row, Adds, kept, replaced, UpTo, start, group, continued}
+use Rattle.fdoca.specs.Reasons.{LENGTH, cpt, Is, Describes, InRow, taken, factor, Refers, extent, Lower, one, two, three, Counts, single, array, row, Adds, kept, replaced, UpTo, start, group, continued}
 use Rattle.fdoca.proofs.Tests.{by-order}
 use Rattle.fdoca.proofs.TripletTests.{clash}
 
@@ -107,13 +107,16 @@ module _ {d : List ℕ} where
   unique-before l x id q u h k = x id q u (omega arith) (omega arith)
 
   -- Where no id is described twice they do,
-  pub counts-same : (b : ℕ) → Unique d b → Same d b
+  counts-same : (b : ℕ) → Unique d b → Same d b
   counts-same zero x q n m h c e = absurd (let z : ⊥ = omega arith in z)
   counts-same (suc b) x q n m h c e =
       let y : Unique d q = unique-before (omega arith) x in
       let z : Same d q = λ u a f k. counts-same b (unique-before (omega arith) x) u a f (omega arith) in
       row-same y z c e
 
-  -- and so does the beginning of a row that starts among them.
+  -- and so do the next one, and the beginning of a row that starts there.
   pub up-to-same : {r j k n m : ℕ} → Unique d r → UpTo d r j k n → UpTo d r j k m → n ≡ m
   up-to-same {r} x u v = up-same x (counts-same r x) u v
+
+  pub count-same : {r n m : ℕ} → Unique d r → Counts d r n → Counts d r m → n ≡ m
+  count-same {r} x u v = row-same x (counts-same r x) u v

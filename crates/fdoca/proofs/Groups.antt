@@ -1,7 +1,7 @@
 -- The check of an RLO's or CPT's groups refuses the first one that has a reason, for its first reason, and counts the items of those that have none.
 -- Assumes nothing.
-use mathlib.Core.Path.{_≡_, refl, sym, ap, _∙_}
-use mathlib.Core.Logic.{_≢_, _⊎_, inl, inr}
+use mathlib.Core.Path.{_≡_, refl}
+use mathlib.Core.Logic.{_≢_}
 use Prim.Native.Nat.{ℕ, zero, suc, _+_, _*_, _≤_, _<_}
 use native.Mathlib.Omega.{arith}
 use mathlib.Core.Bool.{Bool, true, false}
@@ -10,15 +10,15 @@ use mathlib.Core.Option.{Option, none, some}
 use lib.Dec.{ltb, eqb}
 use lib.ListN.{drop}
 use borrow.Author.Tests.{ltb-true, ltb-false, eqb-true, eqb-false}
-use Rattle.fdoca.specs.Basics.{lookup, product, Result, refuse, ok, _>>=_, _>>_, reject, the}
+use Rattle.fdoca.specs.Basics.{lookup, product, Result, ok, _>>=_, _>>_, reject, the}
 use Rattle.fdoca.specs.Triplet.{threes}
 use Rattle.fdoca.specs.Check as C
 use Rattle.fdoca.specs.Check.{Entry, countOf, countTaken, maxItems, addGroup, addGroups}
-use Rattle.fdoca.specs.Reasons.{place, LENGTH, byteOf, Whole, sda, rlo, Is, InRow, reference, taken, factor, Refers, extent, Lower, Counts, single, array, row, Adds, kept, replaced, UpTo, group, MissingReference, missing, NotCarried, repetition-0, over-RLO, over-single, TooManyUpTo, of-row, OfTriplet, missing-reference, not-carried, too-many-up-to}
+use Rattle.fdoca.specs.Reasons.{place, LENGTH, Whole, sda, rlo, Is, InRow, reference, taken, factor, Refers, extent, Lower, Counts, single, array, row, Adds, kept, replaced, UpTo, group, missing, NotCarried, repetition-0, over-RLO, over-single, of-row, OfTriplet, missing-reference, not-carried, too-many-up-to}
 use Rattle.fdoca.proofs.TripletBytes.{bytesOf, groupOf, groups-from, groups-end}
 use Rattle.fdoca.proofs.TripletTests.{Tells, clash}
 use Rattle.fdoca.proofs.Counting.{Unique, up-in-row, one-row, up-to-same, lower-long}
-use Rattle.fdoca.proofs.TripletRows.{Clear, Judged, refused, passed, clear-more, by-row, next-group, group-of, none-left}
+use Rattle.fdoca.proofs.TripletRows.{Clear, Judged, refused, passed, clear-more, next-group, group-of, none-left}
 
 -- What the check keeps of the SDA or RLO q.
 pub data EntryAt (d : List ℕ) (q : ℕ) : Entry → Type 0 where

@@ -23,3 +23,6 @@ pub mod TripletTests
 pub mod Counting
 pub mod TripletRows
 pub mod Groups
+pub mod TripletSteps
+pub mod FirstReasons
+pub mod CheckRows

@@ -1,13 +1,13 @@
 -- The bytes of a triplet, and its parts, at their places in the descriptor.
 -- Assumes nothing.
 use mathlib.Core.Path.{_≡_, refl, sym, ap, _∙_}
-use Prim.Native.Nat.{ℕ, zero, suc, _+_, _-_, _*_, _≤_, _<_}
-use mathlib.Core.List.{List, [], _∷_, _++_}
+use Prim.Native.Nat.{ℕ, zero, suc, _+_, _*_, _≤_, _<_}
+use mathlib.Core.List.{List, [], _∷_}
 use native.Mathlib.Omega.{arith}
 use lib.ListN.{length, take, drop, getD, length-drop, drop-of-length-le, List·getD-eq-default}
-use lib.Seq.{drop-cons, take-all, length-take-le, getD-take, getD-drop, drop-drop}
+use lib.Seq.{drop-cons, take-all, length-take-le, getD-take, getD-drop}
 use Rattle.fdoca.specs.Basics.{big}
-use Rattle.fdoca.specs.Triplet.{idOf, codeOf, parametersOf, pairs, extentsOf, biasOf, modeOf, lengthOf, Group, threes, groupsOf, subsetOf, versionOf}
+use Rattle.fdoca.specs.Triplet.{parametersOf, pairs, biasOf, modeOf, lengthOf, Group, threes, subsetOf, versionOf}
 use Rattle.fdoca.specs.Reasons.{byte, twoBytes, place, LENGTH, byteOf, Whole, extent, reference, taken, factor}
 use Rattle.fdoca.proofs.Account.{big-two}
 

@@ -1,26 +1,17 @@
 -- The check of a triplet refuses it for the first of its reasons in document 01's order, and accepts it where it has none.
 -- Assumes nothing.
-use mathlib.Core.Path.{_≡_, refl, sym, ap, _∙_}
-use mathlib.Core.Logic.{_≢_, _⊎_, inl, inr}
+use mathlib.Core.Path.{_≡_, refl, sym}
+use mathlib.Core.Logic.{_⊎_, inl, inr}
 use Prim.Native.Nat.{ℕ, zero, suc, _+_, _*_, _≤_, _<_}
 use native.Mathlib.Omega.{arith}
-use mathlib.Core.Bool.{Bool, true, false, not, true≢false}
+use mathlib.Core.Bool.{Bool, true, false}
 use mathlib.Core.List.{List, [], _∷_}
-use mathlib.Core.Option.{Option, none, some}
-use lib.Dec.{ltb, eqb}
-use lib.ListN.{drop}
-use borrow.Author.Tests.{ltb-true, ltb-false, eqb-true, eqb-false, not-true, not-false}
-use Rattle.fdoca.specs.Basics.{if_then_else_, lookup, isSome, product, Result, refuse, ok, _>>=_, _>>_, reject, the}
-use Rattle.fdoca.specs.Triplet.{Construct, constructs, constructOf, idOf, extentsOf, Group, threes, groupsOf}
-use Rattle.fdoca.specs.Triplet as Triplet
-use Rattle.fdoca.specs.Check as C
-use Rattle.fdoca.specs.Check.{Entry, countOf, countTaken, closed, closeRow, isDescribed, goodLengthSDA, goodSDA, goodLengthRow, goodLengthISD, goodISD, maxItems, addGroup, addGroups, checkSDA, checkRLO, checkCPT, checkISD, checkConstruct}
-use Rattle.fdoca.specs.Reasons.{OneOf, here, there, place, LENGTH, byteOf, Whole, There, sda, rlo, isd, cpt, Is, Describes, InRow, reference, taken, factor, Refers, extent, Lower, one, two, three, Counts, single, array, row, Adds, kept, replaced, UpTo, start, group, continued, Torn, below-2, past-the-end, UnknownConstruct, OutOfSequence, CPT-first, CPT-after, ISD-later, BadLength, BadParameter, NameTaken, taken-by, MissingReference, missing, NotCarried, repetition-0, over-RLO, over-single, TooManyItems, of-SDA, TooManyUpTo, of-row, OfTriplet, torn, unknown-construct, out-of-sequence, bad-length, bad-parameter, name-taken, too-many-items, missing-reference, not-carried, too-many-up-to}
+use mathlib.Core.Option.{none}
+use Rattle.fdoca.specs.Basics.{Result, refuse, ok, _>>_, reject, the}
+use Rattle.fdoca.specs.Reasons.{OneOf, place, LENGTH, byteOf, Whole, sda, rlo, isd, cpt, Is, InRow, one, row, UpTo, group, continued, Torn, below-2, past-the-end, UnknownConstruct, OutOfSequence, BadLength, BadParameter, NameTaken, missing, repetition-0, over-RLO, over-single, TooManyItems, of-row, OfTriplet, torn, unknown-construct, out-of-sequence, bad-length, bad-parameter, name-taken, too-many-items, missing-reference, not-carried, too-many-up-to}
 use Rattle.fdoca.proofs.Tests.{by-order}
-use Rattle.fdoca.proofs.TripletBytes.{bytesOf, byte-bytes, groupOf, groups-from, groups-end}
-use Rattle.fdoca.proofs.TypeRows as Types
-use Rattle.fdoca.proofs.TripletTests.{Tells, clash, Extents, none-there, one-there, two-there, three-there, extents-are, SDA-length, SDA-forms, SDA-parameters, row-form, row-length, RLO-parameters, CPT-parameters, ISD-length, ISD-forms, ISD-parameters}
-use Rattle.fdoca.proofs.Counting.{Unique, up-in-row, one-row, counts-same, up-to-same}
+use Rattle.fdoca.proofs.TripletTests.{Tells}
+use Rattle.fdoca.proofs.Counting.{up-in-row}
 
 -- triplet j has no reason before the turn of number m of its group g
 abbrev pub Clear : List ℕ → (j g m : ℕ) → Type 0
@@ -141,11 +132,13 @@ module _ {d : List ℕ} {j : ℕ} where
       go (suc i) r (inl l) = no-group i m (omega arith) r
       go g r (inr q) = let z : ⊥ = omega (arith, q .1, number-small r) in z
 
-  -- a whole triplet of a known type: numbers 2 and 3 are passed
-  pub known-clear : Whole d j → OneOf (byteOf d j 1) (sda ∷ rlo ∷ isd ∷ cpt ∷ []) → Clear d j 0 4
-  known-clear w o =
-      clear-more (clear-more first-number (λ r. not-torn (row-2 r))) (λ r. row-3 r .not-carried o)
+  -- a whole triplet passes number 2, and one of a known type 3
+  pub whole-clear : Whole d j → Clear d j 0 3
+  whole-clear w = clear-more first-number (λ r. not-torn (row-2 r))
     where
       not-torn : Torn d j → ⊥
       not-torn (below-2 x) = omega (arith, w .long)
       not-torn (past-the-end x) = omega (arith, w .fits)
+
+  pub known-clear : Whole d j → OneOf (byteOf d j 1) (sda ∷ rlo ∷ isd ∷ cpt ∷ []) → Clear d j 0 4
+  known-clear w o = clear-more (whole-clear w) (λ r. row-3 r .not-carried o)

@@ -2,22 +2,22 @@
 -- Assumes nothing.
 use mathlib.Core.Path.{_≡_, refl, sym, ap, _∙_}
 use mathlib.Core.Logic.{_≢_, _⊎_, inl, inr}
-use Prim.Native.Nat.{ℕ, zero, suc, _+_, _-_, _*_, _/_, _%_, _≤_, _<_}
+use Prim.Native.Nat.{ℕ, zero, suc, _+_, _-_, _*_, _/_, _%_, _≤_}
 use native.Mathlib.Omega.{arith}
 use mathlib.Core.Bool.{Bool, true, false, not, _&&_, true≢false}
 use mathlib.Core.List.{List, [], _∷_}
 use mathlib.Core.Option.{Option, none, some}
 use lib.Dec.{leb, eqb}
-use lib.ListN.{length, drop}
+use lib.ListN.{length}
 use borrow.Author.Tests.{leb-true, leb-false, eqb-true, eqb-false, le-leb, eq-eqb, not-true, not-false}
-use Rattle.fdoca.specs.Basics.{elem, product}
+use Rattle.fdoca.specs.Basics.{elem}
 use Rattle.fdoca.specs.FieldType.{FieldType, typeOf, ruleOf}
-use Rattle.fdoca.specs.Triplet.{idOf, codeOf, parametersOf, pairs, extentsOf, subsetOf, versionOf}
+use Rattle.fdoca.specs.Triplet.{idOf, codeOf, parametersOf, extentsOf, subsetOf, versionOf}
 use Rattle.fdoca.specs.Check.{goodType, goodLengthSDA, goodSDA, goodLengthRow, goodLengthISD, goodISD}
-use Rattle.fdoca.specs.Reasons.{OneOf, here, there, twoBytes, place, LENGTH, byteOf, Whole, There, sda, rlo, isd, cpt, Is, Describes, extent, Lower, one, two, three, GoodParameters, Form, SDA, RLO, CPT, ISD, BadLength, BadParameter, own-id-0, parameters, extent-0, reserved, ISD-id, subset, version}
+use Rattle.fdoca.specs.Reasons.{OneOf, here, there, LENGTH, byteOf, Whole, sda, rlo, isd, cpt, Is, Describes, extent, GoodParameters, Form, SDA, RLO, CPT, ISD, BadLength, BadParameter, own-id-0, parameters, extent-0, reserved, ISD-id, subset, version}
 use Rattle.fdoca.proofs.Tests.{and-left, and-right}
 use Rattle.fdoca.proofs.TripletBytes.{bytesOf, length-bytes, byte-bytes, byte-parameters, bias-bytes, mode-bytes, length-field-bytes, extents-from, extents-end, subset-bytes, version-bytes, version-left-off}
-use Rattle.fdoca.proofs.TypeRows.{elem-in, in-elem, elem-out, good-parts, parts-good, rule-allows, table-allows, type-of-code}
+use Rattle.fdoca.proofs.TypeRows.{elem-in, elem-out, good-parts, parts-good, rule-allows, table-allows, type-of-code}
 
 -- A test tells whether P holds.
 pub record Tells (b : Bool) (P : Type 0) : Type 0 where
@@ -26,6 +26,14 @@ pub record Tells (b : Bool) (P : Type 0) : Type 0 where
 
 pub clash : {d : List ℕ} {a b j : ℕ} → Is d a j → Is d b j → a ≢ b → ⊥
 clash x y n = n (sym (x .type) ∙ y .type)
+
+-- what describes is an SDA or an RLO
+pub no-describer : {d : List ℕ} {c id j : ℕ} → Is d c j → c ≢ sda → c ≢ rlo → Describes d id j → ⊥
+no-describer {d} {c} {id} {j} i a b x = go (x .kind)
+  where
+    go : Is d sda j ⊎ Is d rlo j → ⊥
+    go (inl k) = clash i k a
+    go (inr k) = clash i k b
 
 -- the four forms of an SDA's extents
 pub data Extents (d : List ℕ) (j : ℕ) : List ℕ → Type 0 where
@@ -107,8 +115,8 @@ module _ (d : List ℕ) (j : ℕ) (w : Whole d j) where
     SDA-forms h = elem-in (LENGTH d j) (12 ∷ 14 ∷ 16 ∷ 18 ∷ []) (rw (length-bytes d j w) at (not-false (goodLengthSDA (bytesOf d j)) h))
 
     module _ (forms : OneOf (LENGTH d j) (12 ∷ 14 ∷ 16 ∷ 18 ∷ [])) where
-      long : 12 ≤ LENGTH d j
-      long = go forms
+      pub SDA-long : 12 ≤ LENGTH d j
+      SDA-long = go forms
         where
           go : OneOf (LENGTH d j) (12 ∷ 14 ∷ 16 ∷ 18 ∷ []) → 12 ≤ LENGTH d j
           go (here e) = omega arith
@@ -117,10 +125,10 @@ module _ (d : List ℕ) (j : ℕ) (w : Whole d j) where
           go (there (there (there (here e)))) = omega arith
 
       id-is : idOf (bytesOf d j) ≡ byteOf d j 2
-      id-is = byte-bytes d j w 2 (omega (arith, long))
+      id-is = byte-bytes d j w 2 (omega (arith, SDA-long))
 
       code-is : codeOf (bytesOf d j) ≡ byteOf d j 3
-      code-is = byte-bytes d j w 3 (omega (arith, long))
+      code-is = byte-bytes d j w 3 (omega (arith, SDA-long))
 
       type-good : goodType (typeOf (codeOf (bytesOf d j))) (parametersOf (bytesOf d j)) ≡ true → GoodParameters d j
       type-good = go (typeOf (codeOf (bytesOf d j))) refl
@@ -130,9 +138,9 @@ module _ (d : List ℕ) (j : ℕ) (w : Whole d j) where
           go (some T) e h =
               let g = good-parts (ruleOf T) (parametersOf (bytesOf d j)) h in
               record {
-                zeros = (sym (byte-parameters d j w long 0 (omega arith)) ∙ g .zeros .0, sym (byte-parameters d j w long 1 (omega arith)) ∙ g .zeros .1, sym (byte-parameters d j w long 4 (omega arith)) ∙ g .zeros .2);
+                zeros = (sym (byte-parameters d j w SDA-long 0 (omega arith)) ∙ g .zeros .0, sym (byte-parameters d j w SDA-long 1 (omega arith)) ∙ g .zeros .1, sym (byte-parameters d j w SDA-long 4 (omega arith)) ∙ g .zeros .2);
                 allowed =
-                    rw (← bias-bytes d j w long, ← mode-bytes d j w long, ← length-field-bytes d j w long)
+                    rw (← bias-bytes d j w SDA-long, ← mode-bytes d j w SDA-long, ← length-field-bytes d j w SDA-long)
                     (rule-allows (byteOf d j 3) _ _ _ T (ap typeOf (sym code-is) ∙ e) (g .bias) (g .mode) (g .length-allowed));
               }
 
@@ -141,10 +149,10 @@ module _ (d : List ℕ) (j : ℕ) (w : Whole d j) where
           let b = table-allows (g .allowed) in
           rw (code-is, type-of-code (b .typed))
           (parts-good (ruleOf (b .type)) (parametersOf (bytesOf d j)) (record {
-            zeros = (byte-parameters d j w long 0 (omega arith) ∙ g .zeros .0, byte-parameters d j w long 1 (omega arith) ∙ g .zeros .1, byte-parameters d j w long 4 (omega arith) ∙ g .zeros .2);
-            bias = rw (bias-bytes d j w long) (b .bias-is);
-            mode = rw (mode-bytes d j w long) (b .mode-is);
-            length-allowed = rw (length-field-bytes d j w long) (b .length-is);
+            zeros = (byte-parameters d j w SDA-long 0 (omega arith) ∙ g .zeros .0, byte-parameters d j w SDA-long 1 (omega arith) ∙ g .zeros .1, byte-parameters d j w SDA-long 4 (omega arith) ∙ g .zeros .2);
+            bias = rw (bias-bytes d j w SDA-long) (b .bias-is);
+            mode = rw (mode-bytes d j w SDA-long) (b .mode-is);
+            length-allowed = rw (length-field-bytes d j w SDA-long) (b .length-is);
           }))
 
       SDA-bad : (a g x : Bool) → eqb (idOf (bytesOf d j)) 0 ≡ a → goodType (typeOf (codeOf (bytesOf d j))) (parametersOf (bytesOf d j)) ≡ g
@@ -205,14 +213,6 @@ module _ (d : List ℕ) (j : ℕ) (w : Whole d j) where
         good h (ISD-id i k) = clash is i (omega arith)
         good h (subset i k) = clash is i (omega arith)
         good h (version i k l) = clash is i (omega arith)
-
-  -- what describes is an SDA or an RLO
-  no-describer : {c id : ℕ} → Is d c j → c ≢ sda → c ≢ rlo → Describes d id j → ⊥
-  no-describer {c} {id} is a b k = go (k .kind)
-    where
-      go : Is d sda j ⊎ Is d rlo j → ⊥
-      go (inl i) = clash is i a
-      go (inr i) = clash is i b
 
   module _ (is : Is d cpt j) where
     pub CPT-parameters : 6 ≤ LENGTH d j → Tells (not (eqb (idOf (bytesOf d j)) 0)) (BadParameter d j)

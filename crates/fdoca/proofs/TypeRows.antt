@@ -1,18 +1,18 @@
 -- What the table of rules allows is what document 01's table of field types allows: type code, bias indicator, mode and field length.
 -- Assumes nothing.
-use mathlib.Core.Path.{_≡_, refl, sym, ap, _∙_}
-use Prim.Native.Nat.{ℕ, zero, suc, _+_, _-_, _≤_, _<_}
+use mathlib.Core.Path.{_≡_, refl, sym, _∙_}
+use Prim.Native.Nat.{ℕ, _+_, _-_, _≤_, _<_}
 use native.Mathlib.Omega.{arith}
 use mathlib.Core.Bool.{Bool, true, false, _&&_, true≢false}
 use mathlib.Core.List.{List, [], _∷_}
-use mathlib.Core.Option.{Option, none, some}
+use mathlib.Core.Option.{some}
 use lib.Dec.{leb, ltb, eqb}
 use lib.ListN.{getD}
-use borrow.Author.Tests.{ltb-true, leb-true, leb-false, le-leb, lt-leb, eqb-true, eqb-false, eq-eqb}
+use borrow.Author.Tests.{ltb-true, leb-true, le-leb, lt-leb, eqb-true, eq-eqb}
 use Rattle.fdoca.specs.Basics.{if_then_else_, elem, lookup}
 use Rattle.fdoca.specs.FieldType.{FieldType, fixedBytes, variableBytes, terminatedBytes, shortBytes, integer, reversedInteger, hexFloat, reversedFloat, binaryFloat, types, nullable, plain, typeOf, Rule, allows, ruleOf}
 use Rattle.fdoca.specs.Triplet.{biasOf, modeOf, lengthOf}
-use Rattle.fdoca.specs.Check.{most, goodParameters, goodType}
+use Rattle.fdoca.specs.Check.{most, goodParameters}
 use Rattle.fdoca.specs.Reasons as R
 use Rattle.fdoca.specs.Reasons.{OneOf, here, there, Allowed, fixed, variable, null-terminated, short, whole-number, reversed-whole-number, hexadecimal-float, reversed-float, float}
 use Rattle.fdoca.proofs.Tests.{and-left, and-right}

@@ -321,3 +321,7 @@ pub record First (R : List ℕ → ℕ → ℕ → Type 0) (m p : ℕ) : Type 0 
   pub turn : List ℕ
   pub reason : R turn m p
   pub others-later : (t : List ℕ) (n q : ℕ) → R t n q → Earlier turn t ⊎ ((t ≡ turn) × (n ≡ m) × (q ≡ p))
+
+-- None of the reasons R holds.
+abbrev pub None : (R : List ℕ → ℕ → ℕ → Type 0) → Type 0
+None R = (t : List ℕ) (m p : ℕ) → R t m p → ⊥
