@@ -1,7 +1,8 @@
--- The fields of an accepted descriptor: each has the type of its code, and a field length that the type allows. A value of fixed length is no longer
--- than its field length.
+-- The fields of an accepted descriptor: each has the type of its code, a field length that the type allows, and mode 0 or 1. A value of fixed length
+-- is no longer than its field length.
 -- Assumes nothing.
 use mathlib.Core.Path.{_≡_, refl, sym, ap, _∙_}
+use mathlib.Core.Logic.{_⊎_, inl, inr}
 use Prim.Native.Nat.{ℕ, zero, suc, _+_, _*_, _≤_}
 use native.Mathlib.Omega.{arith}
 use mathlib.Core.Bool.{Bool, true, false, not, _&&_, true≢false}
@@ -9,6 +10,7 @@ use mathlib.Core.List.{List, [], _∷_, _++_}
 use mathlib.Core.Option.{Option, none, some}
 use lib.Dec.{leb, ltb, eqb}
 use lib.ListN.{length, drop, replicate, getD, getElem?}
+use borrow.Author.Tests.{leb-true}
 use Rattle.fdoca.specs.Basics.{if_then_else_, elem, lookup, repeat, product, ok, _>>=_, _>>_, the}
 use Rattle.fdoca.specs.FieldType.{FieldType, Layout, fixed, counted, terminated, Rule, allows, typeOf, ruleOf, nullable}
 use Rattle.fdoca.specs.Triplet.{Triplet, torn, triplet, triplets, Construct, SDA, RLO, ISD, CPT, constructOf, idOf, codeOf, parametersOf, modeOf, biasOf, lengthOf, extentsOf, Group, groupsOf}
@@ -24,6 +26,7 @@ use Rattle.fdoca.proofs.Count.{entries, state, closed-state, check-trip
 pub record GoodField (f : Field) : Type 0 where
   pub typed : typeOf (f .code) ≡ some (f .type)
   pub allowed : allows (ruleOf (f .type) .lengths) (f .fieldLength) ≡ true
+  pub mode-known : f .mode ≤ 1
 
 pub data AllGood : List Field → Type 0 where
   nil : AllGood []
@@ -32,6 +35,10 @@ pub data AllGood : List Field → Type 0 where
 good-append : {fs gs : List Field} → AllGood fs → AllGood gs → AllGood (fs ++ gs)
 good-append nil b = b
 good-append (cons g a) b = cons g (good-append a b)
+
+pub good-at : (before : List Field) (f : Field) (after : List Field) → AllGood (before ++ (f ∷ after)) → GoodField f
+good-at [] f after (cons g a) = g
+good-at (x ∷ before) f after (cons g a) = good-at before f after a
 
 good-replicate : (n : ℕ) (f : Field) → GoodField f → AllGood (replicate n f)
 good-replicate zero f g = nil
@@ -90,11 +97,17 @@ good-add ds l (x ∷ gs) g a =
     good-add ds (l ++ groupFields ds x) gs g (good-append a (good-repeat (x .factor) _ (good-referred (x .taken) (x .ref) ds g)))
 
 -- the parts of a good SDA
-good-parameters : (r : Rule) (ps : List ℕ) → C.goodParameters r ps ≡ true → allows (r .lengths) (lengthOf ps) ≡ true
+most-one : (has : Bool) → C.most has ≤ 1
+most-one true = omega arith
+most-one false = omega arith
+
+good-parameters : (r : Rule) (ps : List ℕ) → C.goodParameters r ps ≡ true → (allows (r .lengths) (lengthOf ps) ≡ true) × (modeOf ps ≤ 1)
 unfolding C.goodParameters
 good-parameters r ps h =
-    and-right (eqb (getD ps 0 0) 0 && eqb (getD ps 1 0) 0 && leb (biasOf ps) (C.most (r .hasBias)) && eqb (getD ps 4 0) 0 && leb (modeOf ps) (C.most (r .hasMode)))
-    (allows (r .lengths) (lengthOf ps)) h
+    let front : Bool = eqb (getD ps 0 0) 0 && eqb (getD ps 1 0) 0 && leb (biasOf ps) (C.most (r .hasBias)) && eqb (getD ps 4 0) 0 in
+    let mode : Bool = leb (modeOf ps) (C.most (r .hasMode)) in
+    let m : leb (modeOf ps) (C.most (r .hasMode)) ≡ true = and-right front mode (and-left (front && mode) (allows (r .lengths) (lengthOf ps)) h) in
+    (and-right (front && mode) (allows (r .lengths) (lengthOf ps)) h, omega (arith, leb-true, most-one (r .hasMode)))
 
 not-false-is : (b : Bool) → not b ≡ false → b ≡ true
 not-false-is true h = refl
@@ -104,7 +117,8 @@ good-SDA : (t : List ℕ) (T : FieldType) → typeOf (codeOf t) ≡ some T → C
 good-SDA t T e h =
     let a : (not (eqb (idOf t) 0) && C.goodType (typeOf (codeOf t)) (parametersOf t)) ≡ true = and-left _ (not (elem 0 (extentsOf t))) h in
     let b : C.goodType (typeOf (codeOf t)) (parametersOf t) ≡ true = and-right (not (eqb (idOf t) 0)) _ a in
-    record { typed = e; allowed = good-parameters (ruleOf T) (parametersOf t) (sym (ap (λ o. C.goodType o (parametersOf t)) e) ∙ b) }
+    let c = good-parameters (ruleOf T) (parametersOf t) (sym (ap (λ o. C.goodType o (parametersOf t)) e) ∙ b) in
+    record { typed = e; allowed = c .0; mode-known = c .1 }
 
 good-unfold-SDA : (u : Layouts) (p : ℕ) (t : List ℕ) (o : Option FieldType) → typeOf (codeOf t) ≡ o → GoodLayouts u
     → IfOk (λ st. GoodLayouts (unfoldSDA o u t)) (C.checkSDA (entries (closed u)) p t)
@@ -161,6 +175,15 @@ good-check d =
 -- The fields of an accepted descriptor are good.
 pub fields-good : (d : List ℕ) (n : ℕ) → C.check d ≡ ok n → AllGood (unfolded d)
 fields-good d n e = ok-of (rw e at (good-check d))
+
+-- No field of an accepted descriptor has a mode other than 0 and 1.
+pub modes-known : (d : List ℕ) (n : ℕ) → C.check d ≡ ok n → (before : List Field) (f : Field) (after : List Field)
+    → unfolded d ≡ before ++ (f ∷ after) → (f .mode ≡ 0) ⊎ (f .mode ≡ 1)
+modes-known d n e before f after k = go (f .mode) (good-at before f after (rw k at (fields-good d n e)) .mode-known)
+  where
+    go : (m : ℕ) → m ≤ 1 → (m ≡ 0) ⊎ (m ≡ 1)
+    go zero h = inl refl
+    go (suc m) h = inr (omega arith)
 
 -- a value of fixed length
 abbrev NoLonger : Layout → ℕ → Measured → Type 0

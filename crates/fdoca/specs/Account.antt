@@ -19,7 +19,7 @@ pub data FixedLength : FieldType → Type 0 where
   float : FixedLength binaryFloat
 
 -- The bytes r that follow a value of n bytes, by mode and field length. F = 0 sets no limit. In mode 1 F is the largest length, and only the
--- value is sent. In mode 0 F bytes are reserved, and all of them are sent. (An accepted descriptor has no other mode.)
+-- value is sent. In mode 0 F bytes are reserved, and all of them are sent. (An accepted descriptor has no other mode: Fields.modes-known.)
 pub data Reserved (mode F n : ℕ) : List ℕ → Type 0 where
   no-limit : F ≡ 0 → Reserved mode F n []
   value-only : F ≢ 0 → mode ≢ 0 → n ≤ F → Reserved mode F n []
