@@ -26,3 +26,5 @@ pub mod Groups
 pub mod TripletSteps
 pub mod FirstReasons
 pub mod CheckRows
+pub mod ItemTests
+pub mod ItemRows

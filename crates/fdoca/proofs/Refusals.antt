@@ -28,7 +28,7 @@ refused-body {mode} {F} {L} {s} w (value-only g k l h) =
 refused-body {mode} {F} {L} {s} w (all-sent g e l h) =
     rw (space-full mode F g e) (le-ltb F L l, rw (lt-leb (L + (F - L)) (length s) (omega arith)))
 
-over : (mode F L : ℕ) → F ≢ 0 → F < L → isOver (space mode F) L ≡ true
+pub over : (mode F L : ℕ) → F ≢ 0 → F < L → isOver (space mode F) L ≡ true
 unfolding space
 over mode F L h k = rw (ne-eqb F 0 h) (by-test (λ sp. isOver sp L ≡ true) (eqb mode 0) (λ t. lt-ltb F L k) (λ t. lt-ltb F L k))
 
@@ -129,7 +129,7 @@ module _ (mode F : ℕ) where
           all-sent (eqb-false F 0 t) (eqb-true mode 0 u) l (omega arith)
       go false false t u h k = value-only (eqb-false F 0 t) (eqb-false mode 0 u) (ltb-false F L h) (omega arith)
 
-  over-of : (L : ℕ) → isOver (space mode F) L ≡ true → (F ≢ 0) × (F < L)
+  pub over-of : (L : ℕ) → isOver (space mode F) L ≡ true → (F ≢ 0) × (F < L)
   unfolding space
   over-of L = go (eqb F 0) (eqb mode 0) refl
     where
