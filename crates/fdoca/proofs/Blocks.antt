@@ -1,11 +1,11 @@
 -- The walk accepts exactly the byte strings that are the items of its fields by the standard's account, one after the other and nothing behind
 -- them; there is one way only to cut them so.
 -- Assumes nothing.
-use mathlib.Core.Path.{_≡_, refl, sym, ap, _∙_, subst}
+use mathlib.Core.Path.{_≡_, refl, sym, ap, _∙_}
 use Prim.Native.Nat.{ℕ, _+_}
 use native.Mathlib.Omega.{arith}
 use mathlib.Core.Bool.{Bool}
-use mathlib.Core.List.{List, [], _∷_, _++_, append-assoc}
+use mathlib.Core.List.{List, [], _∷_, _++_, append-assoc, append-nil}
 use lib.Dec.{ltb}
 use lib.ListN.{length, take, drop, length-append}
 use lib.Seq.{take-at, drop-at, drop-drop}
@@ -39,24 +39,27 @@ behind x s =
     let q : onto x s ≡ a ++ s = simp append-assoc in
     rw q (drop-at a s (length (x .prefix) + length (x .value) + length (x .padding)) e)
 
--- the position behind a block's items
-abbrev endOf : ℕ → List Field → List Parts → ℕ
-endOf p [] xs = p
-endOf p (f ∷ fs) [] = p
-endOf p (f ∷ fs) (x ∷ xs) = endOf (p + itemLength (noteOfParts p f x)) fs xs
+-- more bytes behind an item's
+onto-append : (x : Parts) (s t : List ℕ) → onto x s ++ t ≡ onto x (s ++ t)
+onto-append x s t = simp append-assoc
 
-cut-block : (p : ℕ) (fs : List Field) (xs : List Parts) (s : List ℕ) → Block fs xs s
-    → cutFrom p fs s ≡ ok (record { notes = notesOf p fs xs; end = endOf p fs xs; rest = [] })
+onto-length : (x : Parts) (s : List ℕ) → length (onto x s) ≡ length (x .prefix) + length (x .value) + length (x .padding) + length s
+onto-length x s = simp length-append (omega arith)
+
+-- A block with other bytes behind it is cut into its items, down to those bytes.
+pub cut-block : (p : ℕ) (fs : List Field) (xs : List Parts) (s rest : List ℕ) → Block fs xs s
+    → cutFrom p fs (s ++ rest) ≡ ok (record { notes = notesOf p fs xs; end = p + length s; rest = rest })
 unfolding cutFrom noteOf
-cut-block p fs xs s done = refl
-cut-block p fs xs s (next {f = f} {fs = fs′} {ps = ps} {s = t} x i b) =
-    let e : measure f (onto x t) ≡ sizes x = measure-complete f (onto x t) x (record { rest = t; split = refl; account = i }) in
-    rw (e, behind x t, cut-block (p + itemLength (noteOfParts p f x)) fs′ ps t b)
+cut-block p fs xs s rest done = let e : p + 0 ≡ p = omega arith in rw e
+cut-block p fs xs s rest (next {f = f} {fs = fs′} {ps = ps} {s = t} x i b) =
+    let e : measure f (onto x (t ++ rest)) ≡ sizes x = measure-complete f (onto x (t ++ rest)) x (record { rest = t ++ rest; split = refl; account = i }) in
+    let n : p + length (onto x t) ≡ p + itemLength (noteOfParts p f x) + length t = omega (arith, onto-length x t) in
+    rw (onto-append x t rest, e, behind x (t ++ rest), cut-block (p + itemLength (noteOfParts p f x)) fs′ ps t rest b, n)
 
 -- A block of the account is accepted, and its items are noted.
 pub walk-complete : (fs : List Field) (xs : List Parts) (s : List ℕ) → Block fs xs s → walk fs s ≡ ok (notesOf 0 fs xs)
 unfolding walk
-walk-complete fs xs s b = rw (cut-block 0 fs xs s b)
+walk-complete fs xs s b = rw (rw (append-nil s) at (cut-block 0 fs xs s [] b))
 
 -- a note is that of an item's parts, with which the bytes begin
 record NotedAs (f : Field) (p : ℕ) (s : List ℕ) (n : Note) : Type 0 where
@@ -77,16 +80,20 @@ note-sound f p s = go (measure f s) refl
         record { parts = q .0; begins = q .1; same = cc } in
         holds y
 
--- the items of a cut, and the bytes behind them
-record CutBlock (p : ℕ) (fs : List Field) (s : List ℕ) (c : Cut) : Type 0 where
-  parts : List Parts
-  noted : c .notes ≡ notesOf p fs parts
-  block : c .rest ≡ [] → Block fs parts s
+-- the items of a cut, their bytes, and the bytes behind them
+pub record CutBlock (p : ℕ) (fs : List Field) (s : List ℕ) (c : Cut) : Type 0 where
+  pub parts : List Parts
+  pub bytes : List ℕ
+  pub noted : c .notes ≡ notesOf p fs parts
+  pub block : Block fs parts bytes
+  pub split : s ≡ bytes ++ c .rest
+  pub end-is : c .end ≡ p + length bytes
 
 cut-sound : (p : ℕ) (fs : List Field) (s : List ℕ) → IfOk (CutBlock p fs s) (cutFrom p fs s)
 unfolding cutFrom
 cut-sound p [] s =
-    let r : CutBlock p [] s (record { notes = []; end = p; rest = s }) = record { parts = []; noted = refl; block = λ e. rw e done } in
+    let r : CutBlock p [] s (record { notes = []; end = p; rest = s }) =
+    record { parts = []; bytes = []; noted = refl; block = done; split = refl; end-is = omega arith } in
     holds r
 cut-sound p (f ∷ fs) s =
     bind-all (noteOf f p (measure f s)) (note-sound f p s)
@@ -94,16 +101,22 @@ cut-sound p (f ∷ fs) s =
     let N : Note = noteOfParts p f x in
     let b : Begins f s x = h .begins in
     let d : drop (itemLength N) s ≡ b .rest = ap (drop (itemLength N)) (b .split) ∙ behind x (b .rest) in
-    let back : onto x (drop (itemLength N) s) ≡ s = ap (onto x) d ∙ sym (b .split) in
+    let back : s ≡ onto x (drop (itemLength N) s) = b .split ∙ ap (onto x) (sym d) in
     rw (h .same)
     (bind-all (cutFrom (p + itemLength N) fs (drop (itemLength N) s)) (cut-sound (p + itemLength N) fs (drop (itemLength N) s))
     (λ c k. let r : CutBlock p (f ∷ fs) s (with N c) =
     record {
       parts = x ∷ k .parts;
+      bytes = onto x (k .bytes);
       noted = ap (λ l. N ∷ l) (k .noted);
-      block = λ e. subst (λ t. Block (f ∷ fs) (x ∷ k .parts) t) back (next x (b .account) (k .block e));
+      block = next x (b .account) (k .block);
+      split = back ∙ ap (onto x) (k .split) ∙ sym (onto-append x (k .bytes) (c .rest));
+      end-is = omega (arith, k .end-is, onto-length x (k .bytes));
     } in
     holds r)))
+
+pub cut-parts : (p : ℕ) (fs : List Field) (s : List ℕ) (c : Cut) → cutFrom p fs s ≡ ok c → CutBlock p fs s c
+cut-parts p fs s c e = ok-of (rw e at (cut-sound p fs s))
 
 nil-of-length : (x : List ℕ) → length x ≡ 0 → x ≡ []
 nil-of-length [] e = refl
@@ -121,7 +134,8 @@ accepted fs s =
     bind-all (cutFrom 0 fs s) (cut-sound 0 fs s)
     (λ c k. reject-all (ltb 0 (length (c .rest))) 16 (c .end)
     (λ h. let e : c .rest ≡ [] = nil-of-length (c .rest) (omega (arith, ltb-false 0 (length (c .rest)) h)) in
-    let r : Accepted fs s (c .notes) = record { parts = k .parts; block = k .block e; noted = k .noted } in
+    let q : k .bytes ≡ s = sym (k .split ∙ rw e (append-nil (k .bytes))) in
+    let r : Accepted fs s (c .notes) = record { parts = k .parts; block = rw q at (k .block); noted = k .noted } in
     holds r))
 
 -- What is accepted is a block of the account, with the items noted.

@@ -28,3 +28,4 @@ pub mod FirstReasons
 pub mod CheckRows
 pub mod ItemTests
 pub mod ItemRows
+pub mod BlockRows
