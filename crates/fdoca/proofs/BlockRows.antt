@@ -3,7 +3,7 @@
 -- Assumes nothing.
 use mathlib.Core.Path.{_≡_, refl, sym, ap, _∙_, subst}
 use mathlib.Core.Logic.{_⊎_, inl, inr}
-use Prim.Native.Nat.{ℕ, zero, suc, _+_, _≤_, _<_}
+use Prim.Native.Nat.{ℕ, suc, _+_, _≤_, _<_}
 use native.Mathlib.Nat.{eq-or-lt-of-le}
 use native.Mathlib.Omega.{arith}
 use mathlib.Core.Bool.{Bool, true, false}
@@ -18,6 +18,7 @@ use Rattle.fdoca.specs.Item.{Field, Measured, refused, item, measure}
 use Rattle.fdoca.specs.Walk.{Note, itemLength, Cut, noteOf, with, cutFrom, walk}
 use Rattle.fdoca.specs.Account.{Parts, Block, done, next}
 use Rattle.fdoca.specs.Reasons.{OfItem, StartsAt, OfItems, surplus, Earlier, here, further, First}
+use Rattle.fdoca.proofs.Table.{is-there}
 use Rattle.fdoca.proofs.Results.{IfOk, holds, bind-all, itself, ok-of, ok-bind, ok-reject}
 use Rattle.fdoca.proofs.Refusals.{refused-iff}
 use Rattle.fdoca.proofs.Cover.{joined, cut-append, walk-covers}
@@ -230,11 +231,6 @@ nth-at : {A : Type 0} (l : List A) (a : A) (m : List A) → getElem? (l ++ (a �
 nth-at [] a m = refl
 nth-at (x ∷ l) a m = nth-at l a m
 
-nth-inside : {A : Type 0} (l : List A) (k : ℕ) (a : A) → getElem? l k ≡ some a → k < length l
-nth-inside [] k a e = absurd (let z : _≡_ {A = ℕ} 0 1 = cc in let w : ⊥ = omega arith in w)
-nth-inside (x ∷ l) zero a e = omega arith
-nth-inside (x ∷ l) (suc k) a e = let h : k < length l = nth-inside l k a e in omega arith
-
 notes-number : {fs : List Field} {xs : List Parts} {s : List ℕ} (p : ℕ) → Block fs xs s → length (notesOf p fs xs) ≡ length fs
 notes-number p done = refl
 notes-number p (next {f = f} x i b) = ap suc (notes-number (p + itemLength (noteOfParts p f x)) b)
@@ -265,7 +261,7 @@ module _ (fs : List Field) (s : List ℕ) (ns : List Note) (k : ℕ) (e : walk f
   pub item-starts : (i : Note) → getElem? ns k ≡ some i → (rest : List ℕ) × StartsAt fs s k (i .field) (i .start) rest
   item-starts i t =
       let l : length ns ≡ length fs = sym (length-map ns (λ i. i .field)) ∙ ap length (walk-covers fs s ns e .fields) in
-      let (f, q, rest, x) = starts-somewhere (i .field) (omega (arith, nth-inside ns k i t)) in
+      let (f, q, rest, x) = starts-somewhere (i .field) (omega (arith, is-there ns k i t)) in
       let (j, v, y, z) = starts-unique f q rest x in
       let o : j ≡ i = cc in
       (rest, moved (sym y ∙ ap (λ i. i .field) o) (sym z ∙ ap (λ i. i .start) o) x)

@@ -10,13 +10,15 @@ use mathlib.Core.List.{List, [], _∷_}
 use mathlib.Core.Option.{some}
 use lib.Dec.{eqb}
 use lib.ListN.{length, take}
-use borrow.Author.Tests.{leb-true, eqb-true, eqb-false, le-leb, lt-leb, ne-eqb}
-use Rattle.fdoca.specs.Basics.{if_then_else_, lookup, big}
+use borrow.Author.Tests.{eqb-true, leb-true, eqb-false, le-leb, lt-leb, ne-eqb}
+use Rattle.fdoca.specs.Basics.{if_then_else_, lookup, big, elem}
 use Rattle.fdoca.specs.FieldType.{FieldType, fixedBytes, variableBytes, terminatedBytes, shortBytes, integer, reversedInteger, hexFloat, reversedFloat, binaryFloat, types, plain, typeOf, LengthField, signedTwo, unsignedOne, Layout, fixed, counted, terminated, ruleOf}
 use Rattle.fdoca.specs.Item.{Field, Measured, refused, item, Space, unbounded, limited, reserved, space, width, isNegative, isOver, indicated, beforeZero, measureValue, measureNullable, measureItem, measure}
 use Rattle.fdoca.specs.Account.{FixedLength, string, binary, binary-reversed, hex-float, float-reversed, float}
 use Rattle.fdoca.specs.Reasons as R
 use Rattle.fdoca.specs.Reasons.{OneOf, here, there, HasType, Behind, no-indicator, high-bit-0, L, of-two, of-one, Sent, NoZero, ShortData, indicator, length-two, length-one, not-yet, BadCount, NoEnd, none-zero, OfItem, short-data, bad-count, no-end}
+use Rattle.fdoca.proofs.Table.{looked-up}
+use Rattle.fdoca.proofs.TypeRows.{elem-in}
 use Rattle.fdoca.proofs.Tests.{by-le, by-eq}
 use Rattle.fdoca.proofs.Account.{big-one, big-two, fixed-layout, space-none, space-limit, space-full}
 use Rattle.fdoca.proofs.Refusals.{over, over-of}
@@ -24,28 +26,17 @@ use Rattle.fdoca.proofs.ItemTests.{before-zero-within, sent, CutOff, Ag
 
 -- THE TYPE CODES.
 
--- each element of a list has a property; then so has one that is found there
+-- what holds of each of several numbers holds of one of them
 infixr 20 _&_
-data All {A : Type 0} (P : A → Type 0) : List A → Type 0 where
+data All (P : ℕ → Type 0) : List ℕ → Type 0 where
   end : All P []
-  _&_ : {a : A} {l : List A} → P a → All P l → All P (a ∷ l)
-
-looked-up : {A : Type 0} (P : ℕ → A → Type 0) (n : ℕ) (es : List (ℕ × A)) (a : A) → All (λ e. P (e .0) (e .1)) es → lookup n es ≡ some a → P n a
-looked-up P n [] a h e = absurd (let z : _≡_ {A = ℕ} 0 1 = cc in let w : ⊥ = omega arith in w)
-looked-up P n (x ∷ es) a (p & ps) e = go (eqb n (x .0)) refl e (λ k. looked-up P n es a ps k)
-  where
-    go : (b : Bool) → eqb n (x .0) ≡ b → (if b then some (x .1) else lookup n es) ≡ some a → (lookup n es ≡ some a → P n a) → P n a
-    go true t e ih =
-        let k : n ≡ x .0 = eqb-true n (x .0) t in
-        let l : a ≡ x .1 = cc in
-        rw (k, l) p
-    go false t e ih = ih e
+  _&_ : {n : ℕ} {ns : List ℕ} → P n → All P ns → All P (n ∷ ns)
 
 among : (P : ℕ → Type 0) {n : ℕ} {ns : List ℕ} → OneOf n ns → All P ns → P n
 among P (here e) (p & ps) = rw e p
 among P (there h) (p & ps) = among P h ps
 
-has-plain : (f : Field) → HasType f (plain (f .code))
+pub has-plain : (f : Field) → HasType f (plain (f .code))
 has-plain f = by-le (HasType f) 128 (f .code) (λ h. there (here (omega arith))) (λ h. here refl)
 
 plain-of : (c n : ℕ) → c < 128 → OneOf n (c ∷ (c + 0x80) ∷ []) → plain n ≡ c
@@ -65,17 +56,23 @@ Codes c fixed = OneOf c fixedCodes
 Codes c (counted k) = c ≡ lengthCode k
 Codes c terminated = c ≡ 0x03
 
+abbrev codes : ℕ → Layout → Bool
+codes c fixed = elem c fixedCodes
+codes c (counted k) = eqb c (lengthCode k)
+codes c terminated = eqb c 0x03
+
+codes-are : (c : ℕ) (l : Layout) → codes c l ≡ true → Codes c l
+codes-are c fixed h = elem-in c fixedCodes h
+codes-are c (counted k) h = eqb-true c (lengthCode k) h
+codes-are c terminated h = eqb-true c 0x03 h
+
 module _ (f : Field) (typed : typeOf (f .code) ≡ some (f .type)) where
   code-is : Codes (plain (f .code)) (ruleOf (f .type) .layout)
   unfolding typeOf ruleOf
-  code-is =
-      looked-up (λ c T. Codes c (ruleOf T .layout)) (plain (f .code)) types (f .type)
-      (here refl & refl & refl & refl & there (here refl) & there (there (here refl)) & there (there (there (here refl)))
-      & there (there (there (there (here refl)))) & there (there (there (there (there (here refl))))) & end)
-      typed
+  code-is = codes-are (plain (f .code)) (ruleOf (f .type) .layout) (looked-up (λ c T. codes c (ruleOf T .layout)) (plain (f .code)) types (f .type) refl typed)
 
   -- a type code of the table, and the type that stands there
-  type-is : (c : ℕ) (T : FieldType) → c < 128 → lookup c types ≡ some T → HasType f c → f .type ≡ T
+  pub type-is : (c : ℕ) (T : FieldType) → c < 128 → lookup c types ≡ some T → HasType f c → f .type ≡ T
   unfolding typeOf
   type-is c T h e t =
       let k : lookup c types ≡ some (f .type) = rw (plain-of c (f .code) h t) at typed in

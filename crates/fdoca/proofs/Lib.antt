@@ -29,3 +29,4 @@ pub mod CheckRows
 pub mod ItemTests
 pub mod ItemRows
 pub mod BlockRows
+pub mod CallRows

@@ -1,13 +1,16 @@
--- A table's rule, at every entry, from one test that is computed over the whole table; and its end.
+-- A table's rule, at every entry, from one test that is computed over the whole table; its end; and what is looked up in it.
 -- Assumes nothing.
 use mathlib.Core.Path.{_≡_, refl, ap, _∙_}
 use Prim.Native.Nat.{ℕ, zero, suc, _+_, _<_, _≤_}
 use native.Mathlib.Omega.{arith}
 use mathlib.Core.Bool.{Bool, true, false, _&&_}
 use mathlib.Core.List.{List, [], _∷_}
-use mathlib.Core.Option.{none}
+use mathlib.Core.Option.{none, some}
 use lib.Dec.{T, eqb, eqb→eq}
 use lib.ListN.{length, getD, getElem?}
+use borrow.Author.Tests.{eqb-true}
+use Rattle.fdoca.specs.Basics.{if_then_else_, lookup}
+use Rattle.fdoca.proofs.Tests.{and-left, and-right}
 
 -- each entry is the rule's number at its place, counted from i
 abbrev pub agrees : (ℕ → ℕ) → ℕ → List ℕ → Bool
@@ -34,3 +37,36 @@ pub past-end : {A : Type 0} (l : List A) (k : ℕ) → length l ≤ k → getEle
 past-end [] k h = refl
 past-end (x ∷ l) zero h = absurd (let z : ⊥ = omega arith in z)
 past-end (x ∷ l) (suc k) h = past-end l k (omega arith)
+
+pub not-there : {A : Type 0} (l : List A) (k : ℕ) → getElem? l k ≡ none → length l ≤ k
+not-there [] k h = omega arith
+not-there (x ∷ l) zero h = absurd (let z : _≡_ {A = ℕ} 0 1 = cc in let w : ⊥ = omega arith in w)
+not-there (x ∷ l) (suc k) h = let q : length l ≤ k = not-there l k h in omega arith
+
+-- and up to it each place has an entry
+pub is-there : {A : Type 0} (l : List A) (k : ℕ) (a : A) → getElem? l k ≡ some a → k < length l
+is-there [] k a e = absurd (let z : _≡_ {A = ℕ} 0 1 = cc in let w : ⊥ = omega arith in w)
+is-there (x ∷ l) zero a e = omega arith
+is-there (x ∷ l) (suc k) a e = let h : k < length l = is-there l k a e in omega arith
+
+pub there : {A : Type 0} (l : List A) (k : ℕ) → k < length l → (a : A) × (getElem? l k ≡ some a)
+there [] k h = absurd (let z : ⊥ = omega arith in z)
+there (x ∷ l) zero h = (x, refl)
+there (x ∷ l) (suc k) h = there l k (omega arith)
+
+-- a test that every entry of an association list passes, and so the one that is looked up
+module _ {A : Type 0} (P : ℕ → A → Bool) where
+  abbrev pub every : List (ℕ × A) → Bool
+  every [] = true
+  every (e ∷ es) = P (e .0) (e .1) && every es
+
+  pub looked-up : (n : ℕ) (es : List (ℕ × A)) (a : A) → every es ≡ true → lookup n es ≡ some a → P n a ≡ true
+  looked-up n [] a h e = absurd (let z : _≡_ {A = ℕ} 0 1 = cc in let w : ⊥ = omega arith in w)
+  looked-up n (x ∷ es) a h e = go (eqb n (x .0)) refl e (λ k. looked-up n es a (and-right (P (x .0) (x .1)) (every es) h) k)
+    where
+      go : (b : Bool) → eqb n (x .0) ≡ b → (if b then some (x .1) else lookup n es) ≡ some a → (lookup n es ≡ some a → P n a ≡ true) → P n a ≡ true
+      go true t e ih =
+          let k : n ≡ x .0 = eqb-true n (x .0) t in
+          let l : a ≡ x .1 = cc in
+          rw (k, l) (and-left (P (x .0) (x .1)) (every es) h)
+      go false t e ih = ih e

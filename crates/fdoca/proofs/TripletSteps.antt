@@ -19,7 +19,7 @@ use Rattle.fdoca.specs.Check.{Entry, State, closed, closeRow, isDescribe
 use Rattle.fdoca.specs.Reasons.{OneOf, here, there, place, LENGTH, byteOf, Whole, There, sda, rlo, isd, cpt, Is, Describes, InRow, Refers, extent, one, two, three, Counts, row, UpTo, start, continued, OutOfSequence, CPT-first, CPT-after, ISD-later, NameTaken, taken-by, TooManyItems, of-SDA, OfTriplet, unknown-construct, out-of-sequence, bad-length, bad-parameter, name-taken, too-many-items}
 use Rattle.fdoca.proofs.Tests.{by-order}
 use Rattle.fdoca.proofs.TripletBytes.{bytesOf, byte-bytes}
-use Rattle.fdoca.proofs.TypeRows.{Entry as Listed, first, later, looked-up}
+use Rattle.fdoca.proofs.Table.{looked-up}
 use Rattle.fdoca.proofs.TripletTests.{Tells, clash, no-describer, Extents, none-there, one-there, two-there, three-there, extents-are, SDA-length, SDA-forms, SDA-long, SDA-parameters, row-form, row-length, RLO-parameters, CPT-parameters, ISD-length, ISD-forms, ISD-parameters}
 use Rattle.fdoca.proofs.Counting.{Unique, up-in-row, count-same}
 use Rattle.fdoca.proofs.TripletRows.{Clear, Judged, refused, passed, clear-more, by-row, row-4, row-5, row-6, row-7, no-8, no-9, row-10, tells, in-row-kind, group-of, none-left, whole-clear, known-clear}
@@ -103,11 +103,8 @@ typeByte T.RLO = rlo
 typeByte T.ISD = isd
 typeByte T.CPT = cpt
 
-listed-type : {n : ℕ} {x : Construct} → Listed n x constructs → n ≡ typeByte x
-listed-type (first e a) = rw (e, a)
-listed-type (later (first e a)) = rw (e, a)
-listed-type (later (later (first e a))) = rw (e, a)
-listed-type (later (later (later (first e a)))) = rw (e, a)
+construct-type : (n : ℕ) (x : Construct) → lookup n constructs ≡ some x → n ≡ typeByte x
+construct-type n x h = eqb-true n (typeByte x) (looked-up (λ n x. eqb n (typeByte x)) n constructs x refl h)
 
 known-type : {n : ℕ} → OneOf n (sda ∷ rlo ∷ isd ∷ cpt ∷ []) → (x : Construct) × (lookup n constructs ≡ some x)
 known-type (here e) = (T.SDA, rw e)
@@ -365,7 +362,7 @@ module _ (d : List ℕ) (j : ℕ) (there-is : There d j) (w : Whole d j) where
     -- by its construct type
     is-of : {x : Construct} → constructOf (bytesOf d j) ≡ some x → Is d (typeByte x) j
     is-of {x} e =
-        record { there = there-is; type = listed-type (looked-up (byteOf d j 1) x constructs (rw (byte-bytes d j w 1 (omega (arith, w .long))) at e)) }
+        record { there = there-is; type = construct-type (byteOf d j 1) x (rw (byte-bytes d j w 1 (omega (arith, w .long))) at e) }
 
     not-one : constructOf (bytesOf d j) ≡ none → OneOf (byteOf d j 1) (sda ∷ rlo ∷ isd ∷ cpt ∷ []) → ⊥
     not-one e o =

@@ -15,6 +15,7 @@ use Rattle.fdoca.specs.Triplet.{biasOf, modeOf, lengthOf}
 use Rattle.fdoca.specs.Check.{most, goodParameters}
 use Rattle.fdoca.specs.Reasons as R
 use Rattle.fdoca.specs.Reasons.{OneOf, here, there, Allowed, fixed, variable, null-terminated, short, whole-number, reversed-whole-number, hexadecimal-float, reversed-float, float}
+use Rattle.fdoca.proofs.Table.{looked-up}
 use Rattle.fdoca.proofs.Tests.{and-left, and-right}
 
 -- a number that is among others, by the test and by the relation
@@ -37,19 +38,6 @@ in-elem (there {n = n} {m = m} {ns = ns} h) = go (eqb n m) (in-elem h)
 pub elem-out : (n : ℕ) (ns : List ℕ) → elem n ns ≡ false → OneOf n ns → ⊥
 elem-out n ns h k = true≢false (sym (in-elem k) ∙ h)
 
--- an entry of an association list
-pub data Entry {A : Type 0} (n : ℕ) (a : A) : List (ℕ × A) → Type 0 where
-  first : {e : ℕ × A} {es : List (ℕ × A)} → n ≡ e .0 → a ≡ e .1 → Entry n a (e ∷ es)
-  later : {e : ℕ × A} {es : List (ℕ × A)} → Entry n a es → Entry n a (e ∷ es)
-
-pub looked-up : {A : Type 0} (n : ℕ) (a : A) (es : List (ℕ × A)) → lookup n es ≡ some a → Entry n a es
-looked-up n a [] h = absurd (let z : _≡_ {A = ℕ} 0 1 = cc in let w : ⊥ = omega arith in w)
-looked-up n a (e ∷ es) h = go (eqb n (e .0)) refl h (λ k. looked-up n a es k)
-  where
-    go : (b : Bool) → eqb n (e .0) ≡ b → (if b then some (e .1) else lookup n es) ≡ some a → (lookup n es ≡ some a → Entry n a es) → Entry n a (e ∷ es)
-    go true t k ih = let q : a ≡ e .1 = cc in first (eqb-true n (e .0) t) q
-    go false t k ih = later (ih k)
-
 -- the plain type code of a type
 abbrev pub plainCode : FieldType → ℕ
 plainCode fixedBytes = 0x01
@@ -63,20 +51,9 @@ plainCode reversedFloat = 0x47
 plainCode binaryFloat = 0x48
 
 -- the table of types has each type at its code, which is below 128
-abbrev fits : ℕ × FieldType → Bool
-fits e = eqb (e .0) (plainCode (e .1)) && ltb (e .0) 128
-
-abbrev all : List (ℕ × FieldType) → Bool
-all [] = true
-all (e ∷ es) = fits e && all es
-
-entry-fits : {c : ℕ} {T : FieldType} {es : List (ℕ × FieldType)} → Entry c T es → all es ≡ true → fits (c, T) ≡ true
-entry-fits (first {e = e} {es = es} p q) h = rw (p, q) (and-left (fits e) (all es) h)
-entry-fits (later {e = e} {es = es} k) h = entry-fits k (and-right (fits e) (all es) h)
-
-plain-code : (c : ℕ) (T : FieldType) → lookup c types ≡ some T → (c ≡ plainCode T) × (c < 128)
+pub plain-code : (c : ℕ) (T : FieldType) → lookup c types ≡ some T → (c ≡ plainCode T) × (c < 128)
 plain-code c T h =
-    let f : fits (c, T) ≡ true = entry-fits (looked-up c T types h) refl in
+    let f = looked-up (λ c T. eqb c (plainCode T) && ltb c 128) c types T refl h in
     (eqb-true c (plainCode T) (and-left (eqb c (plainCode T)) (ltb c 128) f), ltb-true c 128 (and-right (eqb c (plainCode T)) (ltb c 128) f))
 
 -- A code stands for a type exactly where it is the type's plain code or that plus X'80'.

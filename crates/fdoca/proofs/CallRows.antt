@@ -1,0 +1,315 @@
+-- The calls refuse for the first reason in document 01's order, and accept where there is none: list, state with lending, and whole number.
+-- Assumes nothing.
+use mathlib.Core.Path.{_≡_, refl, sym, ap, _∙_}
+use mathlib.Core.Logic.{_⊎_, inl, inr}
+use Prim.Native.Nat.{ℕ, _+_, _*_, _≤_, _<_}
+use native.Mathlib.Omega.{arith}
+use mathlib.Core.Bool.{Bool, true, false, _||_}
+use mathlib.Core.List.{List, [], _∷_, reverse}
+use mathlib.Core.Option.{Option, none, some}
+use lib.Dec.{ltb}
+use lib.IntN.{ℤ, pos}
+use lib.ListN.{length, getElem?, length-map}
+use borrow.Author.Tests.{ltb-true, ltb-false}
+use Rattle.fdoca.specs.Basics.{if_then_else_, Result, refuse, ok, _>>=_, _>>_, reject, the}
+use Rattle.fdoca.specs.FieldType.{FieldType, fixedBytes, variableBytes, terminatedBytes, shortBytes, integer, reversedInteger, hexFloat, reversedFloat, binaryFloat, plain, typeOf}
+use Rattle.fdoca.specs.Item.{Field}
+use Rattle.fdoca.specs.Walk.{Note, walk}
+use Rattle.fdoca.specs.Check.{maxDescriptor, check}
+use Rattle.fdoca.specs.Unfolding.{unfolded}
+use Rattle.fdoca.specs.Calls.{maxData, oversize, itemList, list, itemAt, valueOf, wholeOf, signed, wholeNumber}
+use Rattle.fdoca.specs.Reasons as R
+use Rattle.fdoca.specs.Reasons.{here, there, HasType, StartsAt, OfItems, item, surplus, OfDescriptor, nothing-described, OfBlock, descriptor, items, OfList, small-list, OfState, no-such-item, OfWholeNumber, state, wrong-kind, Earlier, First}
+use Rattle.fdoca.proofs.Results.{ok-bind, ok-reject}
+use Rattle.fdoca.proofs.Table.{not-there, is-there}
+use Rattle.fdoca.proofs.Cover.{walk-covers}
+use Rattle.fdoca.proofs.Count.{count-is-length}
+use Rattle.fdoca.proofs.Fields.{fields-good, item-good}
+use Rattle.fdoca.proofs.TypeRows.{plainCode, plain-code}
+use Rattle.fdoca.proofs.ItemRows.{has-plain, type-is}
+use Rattle.fdoca.proofs.FirstReasons.{Told, refused, accepted, Either, Once, once, Precedes, told-as, told-then, reject-told, the-told}
+use Rattle.fdoca.proofs.CheckRows.{check-told}
+use Rattle.fdoca.proofs.BlockRows.{items-first, items-none, starts-unique, item-starts}
+
+-- Over a limit: turn 1.
+abbrev Sizes : (d s : List ℕ) → List ℕ → ℕ → ℕ → Type 0
+Sizes d s = Once ((4096 < length d) ⊎ (32768 < length s)) (1 ∷ []) 1 0
+
+sizes-told : (d s : List ℕ) → Told (Sizes d s) (reject (oversize d s) 1 0)
+sizes-told d s = reject-told (oversize d s) 1 0 (λ e. over (ltb maxDescriptor (length d)) (ltb maxData (length s)) refl refl e) (λ e. within (ltb maxDescriptor (length d)) (ltb maxData (length s)) refl refl e)
+  where
+    over : (a b : Bool) → ltb maxDescriptor (length d) ≡ a → ltb maxData (length s) ≡ b → (a || b) ≡ true → (4096 < length d) ⊎ (32768 < length s)
+    over true b x y e = inl (ltb-true maxDescriptor (length d) x)
+    over false true x y e = inr (ltb-true maxData (length s) y)
+    over false false x y e = absurd (let z : _≡_ {A = ℕ} 0 1 = cc in let w : ⊥ = omega arith in w)
+
+    within : (a b : Bool) → ltb maxDescriptor (length d) ≡ a → ltb maxData (length s) ≡ b → (a || b) ≡ false → (4096 < length d) ⊎ (32768 < length s) → ⊥
+    within true b x y e h = let z : _≡_ {A = ℕ} 0 1 = cc in let w : ⊥ = omega arith in w
+    within false true x y e h = let z : _≡_ {A = ℕ} 0 1 = cc in let w : ⊥ = omega arith in w
+    within false false x y e (inl h) = omega (arith, ltb-false maxDescriptor (length d) x)
+    within false false x y e (inr h) = omega (arith, ltb-false maxData (length s) y)
+
+-- the items of an accepted descriptor
+items-told : (d s : List ℕ) (n : ℕ) → check d ≡ ok n → Told (OfItems (unfolded d) s) (walk (unfolded d) s)
+items-told d s n e = go (walk (unfolded d) s) refl
+  where
+    go : (w : Result (List Note)) → walk (unfolded d) s ≡ w → Told (OfItems (unfolded d) s) w
+    go (refuse m p) h = refused (items-first (unfolded d) s m p (fields-good d n e) h)
+    go (ok ns) h = accepted (items-none (unfolded d) s ns (fields-good d n e) h)
+
+-- a turn by its first number
+record From (a b : ℕ) (t : List ℕ) : Type 0 where
+  head : ℕ
+  tail : List ℕ
+  is : t ≡ head ∷ tail
+  low : a ≤ head
+  high : head ≤ b
+
+from : (a b h : ℕ) (l : List ℕ) → a ≤ h → h ≤ b → From a b (h ∷ l)
+from a b h l x y = record { head = h; tail = l; is = refl; low = x; high = y }
+
+before-from : {a b c e : ℕ} {t u : List ℕ} → From a b t → From c e u → b < c → Earlier t u
+before-from x y h = let l : x .head < y .head = omega (arith, x .high, y .low) in rw (x .is, y .is) (R.Earlier.here l)
+
+descriptor-from : {d t : List ℕ} {m p : ℕ} → OfDescriptor d t m p → From 1 3 t
+descriptor-from (OfDescriptor.oversize h) = from 1 3 1 [] (omega arith) (omega arith)
+descriptor-from (R.triplet {j = j} {g = g} {m = m} h r) = from 1 3 2 (j ∷ g ∷ m ∷ []) (omega arith) (omega arith)
+descriptor-from (nothing-described h) = from 1 3 3 [] (omega arith) (omega arith)
+
+items-from : {fs : List Field} {s t : List ℕ} {m p : ℕ} → OfItems fs s t m p → From 5 6 t
+items-from (item {k = k} {step = i} x r) = from 5 6 5 (k ∷ i ∷ []) (omega arith) (omega arith)
+items-from (surplus r b e l) = from 5 6 6 [] (omega arith) (omega arith)
+
+-- which reasons come first
+precedes-either : {P Q S : List ℕ → ℕ → ℕ → Type 0} → Precedes P Q → Precedes P S → Precedes P (Either Q S)
+precedes-either f g t u m p n q x (inl y) = f t u m p n q x y
+precedes-either f g t u m p n q x (inr y) = g t u m p n q x y
+
+either-precedes : {P Q S : List ℕ → ℕ → ℕ → Type 0} → Precedes P S → Precedes Q S → Precedes (Either P Q) S
+either-precedes f g t u m p n q (inl x) y = f t u m p n q x y
+either-precedes f g t u m p n q (inr x) y = g t u m p n q x y
+
+by-turns : {P Q : List ℕ → ℕ → ℕ → Type 0} (a b c e : ℕ) → b < c → ((t : List ℕ) (m p : ℕ) → P t m p → From a b t) → ((t : List ℕ) (m p : ℕ) → Q t m p → From c e t)
+    → Precedes P Q
+by-turns a b c e h f g t u m p n q x y = inl (before-from (f t m p x) (g u n q y) h)
+
+once-from : {P : Type 0} {h m p : ℕ} {l : List ℕ} (t : List ℕ) (n q : ℕ) → Once P (h ∷ l) m p t n q → From h h t
+once-from {P} {h} {m} {p} {l} t n q (once x) = from h h h l (omega arith) (omega arith)
+
+sizes-precede : (d s : List ℕ) → Precedes (Sizes d s) (OfDescriptor d)
+sizes-precede d s t u m p n q (once x) (OfDescriptor.oversize y) = inr (refl, refl, refl)
+sizes-precede d s t u m p n q (once x) (R.triplet y z) = inl (R.Earlier.here {a = 1} {b = 2} (omega arith))
+sizes-precede d s t u m p n q (once x) (nothing-described y) = inl (R.Earlier.here {a = 1} {b = 3} (omega arith))
+
+-- one result behind another
+told-after : {A B : Type 0} {P Q : List ℕ → ℕ → ℕ → Type 0} (x : Result A) (y : Result B) → Precedes P Q → Told P x → Told Q y → Told (Either P Q) (x >> y)
+told-after {A} {B} x y h a b = rw (same x y) (told-then x (λ i. y) h a (λ i e. b))
+  where
+    same : (x : Result A) (y : Result B) → (x >> y) ≡ (x >>= (λ i. y))
+    same (refuse m p) y = refl
+    same (ok a) y = refl
+
+told-made : {A B : Type 0} {P : List ℕ → ℕ → ℕ → Type 0} (x : Result A) (f : A → B) → Told P x → Told P (x >>= (λ a. ok (f a)))
+told-made x f (refused h) = refused h
+told-made x f (accepted h) = accepted h
+
+-- The descriptor, then what comes behind it of an accepted one.
+described-then : {A : Type 0} {Q : List ℕ → ℕ → ℕ → Type 0} (d s : List ℕ) (f : ℕ → Result A) → ((t : List ℕ) (m p : ℕ) → Q t m p → From 4 8 t)
+    → ((n : ℕ) → check d ≡ ok n → Told Q (f n)) → Told (Either (Sizes d s) (Either (OfDescriptor d) Q)) (reject (oversize d s) 1 0 >> (check d >>= f))
+described-then d s f late next =
+    told-after (reject (oversize d s) 1 0) (check d >>= f) (precedes-either (sizes-precede d s) (by-turns 1 1 4 8 (omega arith) once-from late))
+    (sizes-told d s) (told-then (check d) f (by-turns 1 3 4 8 (omega arith) (λ t m p x. descriptor-from x) late) (check-told d) next)
+
+late-items : {fs : List Field} {s : List ℕ} (t : List ℕ) (m p : ℕ) → OfItems fs s t m p → From 4 8 t
+late-items t m p x = let h = items-from x in record { head = h .head; tail = h .tail; is = h .is; low = omega (arith, h .low); high = omega (arith, h .high) }
+
+late-either : {P Q : List ℕ → ℕ → ℕ → Type 0} → ((t : List ℕ) (m p : ℕ) → P t m p → From 4 8 t) → ((t : List ℕ) (m p : ℕ) → Q t m p → From 4 8 t)
+    → (t : List ℕ) (m p : ℕ) → Either P Q t m p → From 4 8 t
+late-either f g t m p (inl x) = f t m p x
+late-either f g t m p (inr x) = g t m p x
+
+-- THE LIST CALL
+abbrev Small : (d old : List ℕ) → List ℕ → ℕ → ℕ → Type 0
+Small d old = Once (length old < 2 + 2 * length (unfolded d)) (4 ∷ []) 12 0
+
+module _ (d s old : List ℕ) where
+  abbrev ForList : List ℕ → ℕ → ℕ → Type 0
+  ForList = Either (Sizes d s) (Either (OfDescriptor d) (Either (Small d old) (OfItems (unfolded d) s)))
+
+  to-list : (t : List ℕ) (m p : ℕ) → ForList t m p → OfList d s (length old) t m p
+  to-list t m p (inl (once (inl h))) = OfList.block (descriptor (OfDescriptor.oversize h))
+  to-list t m p (inl (once (inr h))) = OfList.block (OfBlock.oversize h)
+  to-list t m p (inr (inl r)) = OfList.block (descriptor r)
+  to-list t m p (inr (inr (inl (once h)))) = small-list h
+  to-list t m p (inr (inr (inr r))) = OfList.block (items r)
+
+  of-list : (t : List ℕ) (m p : ℕ) → OfList d s (length old) t m p → ForList t m p
+  of-list t m p (OfList.block (descriptor r)) = inr (inl r)
+  of-list t m p (OfList.block (OfBlock.oversize h)) = inl (once (inr h))
+  of-list t m p (OfList.block (items r)) = inr (inr (inr r))
+  of-list t m p (small-list h) = inr (inr (inl (once h)))
+
+  small-told : (n : ℕ) → check d ≡ ok n → Told (Small d old) (reject (ltb (length old) (2 + 2 * n)) 12 0)
+  small-told n e =
+      let c : length (unfolded d) ≡ n = count-is-length d n e in
+      reject-told (ltb (length old) (2 + 2 * n)) 12 0 (λ h. omega (arith, ltb-true (length old) (2 + 2 * n) h)) (λ h x. (let z : ⊥ = omega (arith, ltb-false (length old) (2 + 2 * n) h) in z))
+
+  pub list-told : Told (OfList d s (length old)) (list d s old)
+  unfolding list
+  list-told =
+      told-as to-list of-list
+      (described-then d s (λ n. reject (ltb (length old) (2 + 2 * n)) 12 0 >> (walk (unfolded d) s >>= (λ ns. ok (itemList n (length s) ns old))))
+      (late-either (λ t m p x. (let h = once-from t m p x in record { head = h .head; tail = h .tail; is = h .is; low = h .low; high = omega (arith, h .high) })) late-items)
+      (λ n e. told-after (reject (ltb (length old) (2 + 2 * n)) 12 0) (walk (unfolded d) s >>= (λ ns. ok (itemList n (length s) ns old)))
+      (by-turns 4 4 5 6 (omega arith) once-from (λ t m p x. items-from x)) (small-told n e)
+      (told-made (walk (unfolded d) s) (λ ns. itemList n (length s) ns old) (items-told d s n e))))
+
+-- THE STATE CALL, and lending
+abbrev NoItem : (d : List ℕ) (k : ℕ) → List ℕ → ℕ → ℕ → Type 0
+NoItem d k = Once (length (unfolded d) ≤ k) (7 ∷ []) 17 0
+
+module _ (d s : List ℕ) (k : ℕ) where
+  abbrev ForState : List ℕ → ℕ → ℕ → Type 0
+  ForState = Either (Sizes d s) (Either (OfDescriptor d) (Either (OfItems (unfolded d) s) (NoItem d k)))
+
+  to-state : (t : List ℕ) (m p : ℕ) → ForState t m p → OfState d s k t m p
+  to-state t m p (inl (once (inl h))) = OfState.block (descriptor (OfDescriptor.oversize h))
+  to-state t m p (inl (once (inr h))) = OfState.block (OfBlock.oversize h)
+  to-state t m p (inr (inl r)) = OfState.block (descriptor r)
+  to-state t m p (inr (inr (inl r))) = OfState.block (items r)
+  to-state t m p (inr (inr (inr (once h)))) = no-such-item h
+
+  of-state : (t : List ℕ) (m p : ℕ) → OfState d s k t m p → ForState t m p
+  of-state t m p (OfState.block (descriptor r)) = inr (inl r)
+  of-state t m p (OfState.block (OfBlock.oversize h)) = inl (once (inr h))
+  of-state t m p (OfState.block (items r)) = inr (inr (inl r))
+  of-state t m p (no-such-item h) = inr (inr (inr (once h)))
+
+  nth-told : (ns : List Note) → walk (unfolded d) s ≡ ok ns → Told (NoItem d k) (the (getElem? ns k) 17 0)
+  nth-told ns e =
+      let l : length ns ≡ length (unfolded d) = sym (length-map ns (λ i. i .field)) ∙ ap length (walk-covers (unfolded d) s ns e .fields) in
+      the-told (getElem? ns k) 17 0 (λ h. omega (arith, not-there ns k h)) (λ i h x. (let z : ⊥ = omega (arith, is-there ns k i h) in z))
+
+  pub state-told : Told (OfState d s k) (itemAt d s k)
+  unfolding itemAt
+  state-told =
+      told-as to-state of-state
+      (described-then d s (λ n. walk (unfolded d) s >>= (λ ns. the (getElem? ns k) 17 0))
+      (late-either late-items (λ t m p x. (let h = once-from t m p x in record { head = h .head; tail = h .tail; is = h .is; low = omega (arith, h .low); high = omega (arith, h .high) })))
+      (λ n e. told-then (walk (unfolded d) s) (λ ns. the (getElem? ns k) 17 0) (by-turns 5 6 7 7 (omega arith) (λ t m p x. items-from x) once-from) (items-told d s n e)
+      (λ ns h. nth-told ns h)))
+
+-- what an item that is found tells of the descriptor and the block
+pub record FoundIn (d s : List ℕ) (k : ℕ) (i : Note) : Type 0 where
+  pub count : ℕ
+  pub notes : List Note
+  pub checks : check d ≡ ok count
+  pub walks : walk (unfolded d) s ≡ ok notes
+  pub is-item : getElem? notes k ≡ some i
+
+pub found-in : (d s : List ℕ) (k : ℕ) (i : Note) → itemAt d s k ≡ ok i → FoundIn d s k i
+unfolding itemAt
+found-in d s k i e =
+    let (_, a) = ok-reject (oversize d s) 1 0 (check d >>= (λ n. walk (unfolded d) s >>= (λ ns. the (getElem? ns k) 17 0))) i e in
+    let (n, c, b) = ok-bind (check d) (λ n. walk (unfolded d) s >>= (λ ns. the (getElem? ns k) 17 0)) i a in
+    let (ns, w, t) = ok-bind (walk (unfolded d) s) (λ ns. the (getElem? ns k) 17 0) i b in
+    record { count = n; notes = ns; checks = c; walks = w; is-item = of (getElem? ns k) t }
+  where
+    of : (o : Option Note) → the o 17 0 ≡ ok i → o ≡ some i
+    of none h = absurd (let z : _≡_ {A = ℕ} 0 1 = cc in let w : ⊥ = omega arith in w)
+    of (some j) h = let q : j ≡ i = cc in rw q
+
+-- THE WHOLE-NUMBER READ
+
+not-read : (T : FieldType) (bs : List ℕ) → wholeOf T bs ≡ none → (T ≡ integer → ⊥) × (T ≡ reversedInteger → ⊥)
+unfolding wholeOf
+not-read T bs h = (
+  λ e. let k : some (signed bs) ≡ none = rw e at h in let z : _≡_ {A = ℕ} 0 1 = cc in let w : ⊥ = omega arith in w,
+  λ e. let k : some (signed (reverse bs)) ≡ none = rw e at h in let z : _≡_ {A = ℕ} 0 1 = cc in let w : ⊥ = omega arith in w,
+)
+
+module _ (d s : List ℕ) (k : ℕ) where
+  data WrongKind : List ℕ → ℕ → ℕ → Type 0 where
+    another : {q : ℕ} {f : Field} {rest : List ℕ} → StartsAt (unfolded d) s k f q rest → (HasType f 0x23 → ⊥) → (HasType f 0x24 → ⊥) → WrongKind (8 ∷ []) 18 q
+
+  module _ (i : Note) (e : itemAt d s k ≡ ok i) where
+    found : FoundIn d s k i
+    found = found-in d s k i e
+
+    typed : typeOf (i .field .code) ≡ some (i .field .type)
+    typed = item-good d s k i e .field-good .typed
+
+    has-type : HasType (i .field) (plainCode (i .field .type))
+    unfolding typeOf
+    has-type = rw (plain-code (plain (i .field .code)) (i .field .type) typed .0) at (has-plain (i .field))
+
+    starts : (q : ℕ) (f : Field) (rest : List ℕ) → StartsAt (unfolded d) s k f q rest → (i .field ≡ f) × (i .start ≡ q)
+    starts q f rest x =
+        let (j, a, b, c) = starts-unique (unfolded d) s (found .notes) k (found .walks) f q rest x in
+        let g : getElem? (found .notes) k ≡ some i = found .is-item in
+        let h : j ≡ i = cc in
+        (ap (λ x. x .field) (sym h) ∙ b, ap (λ x. x .start) (sym h) ∙ c)
+
+    -- a whole number is read of X'23' and X'24' alone
+    whole-type : {z : ℤ} (T : FieldType) → i .field .type ≡ T → wholeOf T (valueOf s i) ≡ some z → (HasType (i .field) 0x23 → ⊥) → (HasType (i .field) 0x24 → ⊥) → ⊥
+    unfolding wholeOf
+    whole-type integer t h a b = a (rw t at has-type)
+    whole-type reversedInteger t h a b = b (rw t at has-type)
+    whole-type fixedBytes t h a b = let z : _≡_ {A = ℕ} 0 1 = cc in let w : ⊥ = omega arith in w
+    whole-type variableBytes t h a b = let z : _≡_ {A = ℕ} 0 1 = cc in let w : ⊥ = omega arith in w
+    whole-type terminatedBytes t h a b = let z : _≡_ {A = ℕ} 0 1 = cc in let w : ⊥ = omega arith in w
+    whole-type shortBytes t h a b = let z : _≡_ {A = ℕ} 0 1 = cc in let w : ⊥ = omega arith in w
+    whole-type hexFloat t h a b = let z : _≡_ {A = ℕ} 0 1 = cc in let w : ⊥ = omega arith in w
+    whole-type reversedFloat t h a b = let z : _≡_ {A = ℕ} 0 1 = cc in let w : ⊥ = omega arith in w
+    whole-type binaryFloat t h a b = let z : _≡_ {A = ℕ} 0 1 = cc in let w : ⊥ = omega arith in w
+
+    kind-told : Told WrongKind (the (wholeOf (i .field .type) (valueOf s i)) 18 (i .start))
+    kind-told = go (wholeOf (i .field .type) (valueOf s i)) refl
+      where
+        first-kind : wholeOf (i .field .type) (valueOf s i) ≡ none → First WrongKind 18 (i .start)
+        first-kind n =
+            let x = item-starts (unfolded d) s (found .notes) k (found .walks) i (found .is-item) in
+            record {
+              turn = 8 ∷ [];
+              reason =
+                  another (x .1) (λ t. not-read (i .field .type) (valueOf s i) n .0 (type-is (i .field) typed 0x23 integer (omega arith) refl t))
+                  (λ t. not-read (i .field .type) (valueOf s i) n .1 (type-is (i .field) typed 0x24 reversedInteger (omega arith) refl t));
+              others-later = λ t m q r. later r;
+            }
+          where
+            later : {t : List ℕ} {m q : ℕ} → WrongKind t m q → Earlier (8 ∷ []) t ⊎ ((t ≡ 8 ∷ []) × (m ≡ 18) × (q ≡ i .start))
+            later (another {q = q} {f = f} {rest = rest} x a b) = inr (refl, refl, sym (starts q f rest x .1))
+
+        go : (o : Option ℤ) → wholeOf (i .field .type) (valueOf s i) ≡ o → Told WrongKind (the o 18 (i .start))
+        go none n = refused (first-kind n)
+        go (some z) h = accepted (λ t m p r. no-kind r)
+          where
+            no-kind : {t : List ℕ} {m p : ℕ} → WrongKind t m p → ⊥
+            no-kind (another {q = q} {f = f} {rest = rest} x a b) =
+                let y = starts q f rest x .0 in
+                whole-type (i .field .type) refl h (λ t. a (rw y at t)) (λ t. b (rw y at t))
+
+  to-whole : (t : List ℕ) (m p : ℕ) → Either (OfState d s k) WrongKind t m p → OfWholeNumber d s k t m p
+  to-whole t m p (inl r) = state r
+  to-whole t m p (inr (another x a b)) = wrong-kind x a b
+
+  of-whole : (t : List ℕ) (m p : ℕ) → OfWholeNumber d s k t m p → Either (OfState d s k) WrongKind t m p
+  of-whole t m p (state r) = inl r
+  of-whole t m p (wrong-kind x a b) = inr (another x a b)
+
+  state-from : (t : List ℕ) (m p : ℕ) → OfState d s k t m p → From 1 7 t
+  state-from t m p (OfState.block (descriptor r)) = let h = descriptor-from r in record { head = h .head; tail = h .tail; is = h .is; low = h .low; high = omega (arith, h .high) }
+  state-from t m p (OfState.block (OfBlock.oversize l)) = from 1 7 1 [] (omega arith) (omega arith)
+  state-from t m p (OfState.block (items r)) = let h = items-from r in record { head = h .head; tail = h .tail; is = h .is; low = omega (arith, h .low); high = omega (arith, h .high) }
+  state-from t m p (no-such-item h) = from 1 7 7 [] (omega arith) (omega arith)
+
+  kind-from : (t : List ℕ) (m p : ℕ) → WrongKind t m p → From 8 8 t
+  kind-from t m p (another x a b) = from 8 8 8 [] (omega arith) (omega arith)
+
+  pub whole-told : Told (OfWholeNumber d s k) (wholeNumber d s k)
+  unfolding wholeNumber
+  whole-told =
+      told-as to-whole of-whole
+      (told-then (itemAt d s k) (λ i. the (wholeOf (i .field .type) (valueOf s i)) 18 (i .start) >>= (λ z. ok (i .isNull, if i .isNull then pos 0 else z)))
+      (by-turns 1 7 8 8 (omega arith) state-from kind-from) (state-told d s k)
+      (λ i e. told-made (the (wholeOf (i .field .type) (valueOf s i)) 18 (i .start)) (λ z. (i .isNull, if i .isNull then pos 0 else z)) (kind-told i e)))
