@@ -4,7 +4,7 @@ ghost use Prim.Native.Nat.{_<_};
 ghost use mathlib.Core.List.{[], _∷_};
 ghost use lib.ListN.{length};
 ghost use Rattle.fdoca.specs.Basics.{big};
-ghost use Rattle.fdoca.specs.FieldType.{typeOf, nullable};
+ghost use Rattle.fdoca.specs.FieldType.{typeOf};
 ghost use Rattle.field_types.specs.Rows.{rowOf, RowTable, ruleAt};
 ghost use Rattle.field_types.specs.Parameters.{unusedZero, ruleAllows, goodEight, layoutIf};
 
@@ -422,16 +422,6 @@ fn rule_at(row: u8) -> Rule
         9 => RULES[9],
         _ => RULES[0],
     }
-}
-
-// Whether a type code is a nullable form.
-pub fn is_nullable(code: u8) -> bool
-    ensures { λ r. ⌜ r ≡ nullable code ⌝ }
-{
-    if code < 128 {
-        return false;
-    }
-    true
 }
 
 // The number that a byte is.

@@ -8,7 +8,7 @@ use mathlib.Core.List.{List, [], _∷_}
 use native.Mathlib.Nat.{le-of-eq, le-of-lt, add-zero, add-comm}
 use native.Mathlib.Omega.{arith}
 use lib.Dec.{leb, eqb, lit≤}
-use lib.ListN.{length, getD, take, drop, length-take, length-drop, drop-of-length-le}
+use lib.ListN.{length, getD, take, drop, length-take, length-drop}
 use lib.Seq.{take-all, length-take-le}
 use borrow.Author.Tests.{lt-ltb, le-ltb, le-leb, lt-leb, eq-eqb, ne-eqb, not-true, not-false}
 use Rattle.fdoca.specs.Basics.{if_then_else_, big}
@@ -263,12 +263,3 @@ module _ (b : Bool) (s : List ℕ) (m : Measured) (h : m ≡ answer (measureIndi
           rw (by-indicator l mode f b s, x, ← rest s (m .prefix)) (q ∙ moved-by v _ (m .prefix) (numbered-value l mode f _) e)
 
 pub ruleset measured-ways = (measured-refused, measured-null, measured-value, indicator-inside, moved-fits)
-
-module _ (isNullable : Bool) (l : Layout) (mode f : ℕ) (s : List ℕ) (m : Measured) where
-  pub measured-at : (at : ℕ) → m ≡ answer (measureItem isNullable l mode f (take (length s - at) (drop at s))) → m ≡ answer (measureItem isNullable l mode f (drop at s))
-  measured-at at h = rw rest at h
-
-  pub measured-past : (at : ℕ) → length s < at → m ≡ answer (measureItem isNullable l mode f (take 0 s)) → m ≡ answer (measureItem isNullable l mode f (drop at s))
-  measured-past at k h = rw (drop-of-length-le s (le-of-lt k)) h
-
-pub ruleset place-ways = (measured-at, measured-past)

@@ -336,20 +336,3 @@ pub fn good_parts(s: &[u8], nullable: bool, layout: u8, f: usize) -> Parts
         value: value_length(&s[skip..], layout, f),
     }
 }
-
-// The item that starts at a place of a data block; past its end no bytes are left.
-pub fn measure_at(
-    data: &[u8],
-    at: usize,
-    nullable: bool,
-    layout: u8,
-    mode: u8,
-    f: usize,
-) -> Measured
-    ensures { λ r. ⌜ r ≡ answer (measureItem nullable (layoutOf layout) mode f (drop at (now («data» .entry)))) ⌝ }
-{
-    if at <= data.len() {
-        return measure(&data[at..], nullable, layout, mode, f);
-    }
-    measure(&data[..0], nullable, layout, mode, f)
-}
