@@ -9,8 +9,7 @@ use Rattle.fdoca.specs.Item.{Field}
 use Rattle.fdoca.specs.Walk.{Note, walk}
 use Rattle.fdoca.specs.Calls.{itemList, listed, entriesAfter, stateOf, lent}
 use Rattle.walks.specs.declared.Found.{Found}
-use Rattle.walks.specs.Finding.{foundOf}
-use Rattle.walks.proofs.Callers.{stateFound, lentFound}
+use Rattle.walks.specs.Finding.{foundOf, stateFound, lentFound}
 
 -- The caller's list with the items of n fields, or the walk's refusal.
 unfoldable pub itemsInto : (n : ℕ) → List Field → List ℕ → List ℕ → Result (List ℕ)

@@ -13,7 +13,7 @@ use Rattle.fdoca.specs.Basics.{lookup}
 use Rattle.fdoca.specs.Triplet.{Group}
 use Rattle.fdoca.specs.Item.{Field}
 use Rattle.fdoca.specs.Unfolding.{Described, array, row, groupFields, addFields, Layouts, closeRow}
-use Rattle.fdoca.proofs.Count.{entry}
+use Rattle.fdoca.specs.Between.{entry}
 use Rattle.plans.specs.Tied.{groupsIn, groupsAt, Groups, Takes, all}
 use Rattle.triplets.specs.Judged.{Entered}
 use Rattle.descriptors.specs.declared.Step.{Step}

@@ -22,7 +22,8 @@ use Rattle.fdoca.specs.Check as C
 use Rattle.fdoca.specs.Unfolding.{Described, array, row, fieldsOf, Layouts, closed, unfoldTriplets, start, lastFields, unfolded}
 use Rattle.fdoca.specs.Calls.{checked}
 use Rattle.fdoca.proofs.Triplets.{triplets-end}
-use Rattle.fdoca.proofs.Count.{entries, state, closed-state, length-fieldsOf}
+use Rattle.fdoca.specs.Between.{entries, state}
+use Rattle.fdoca.proofs.Count.{closed-state, length-fieldsOf}
 use Rattle.plans.specs.Tied.{Refers, RowAt, Kept, Tied, describedBy, listOf, rowList}
 use Rattle.descriptors.specs.declared.Step.{Step}
 use Rattle.descriptors.specs.declared.Examined.{Examined}

@@ -14,7 +14,7 @@ use Rattle.fdoca.specs.Basics.{if_then_else_, lookup}
 use Rattle.fdoca.specs.Triplet.{Group}
 use Rattle.fdoca.specs.Item.{Field}
 use Rattle.fdoca.specs.Unfolding.{Described, array, row, groupFields, addFields}
-use Rattle.fdoca.proofs.Count.{entry, entries}
+use Rattle.fdoca.specs.Between.{entry, entries}
 use Rattle.plans.specs.Tied.{groupsAt}
 use Rattle.triplets.specs.Judged.{KeptAs, Entered}
 use Rattle.descriptors.specs.Holds.{RefersIn, RowIn, KeptIn, Placed, Tables}

@@ -20,8 +20,9 @@ use Rattle.fdoca.specs.Check.{Entry, State, isDescribed, goodLengthSDA, goodSDA
 use Rattle.fdoca.specs.Check as C
 use Rattle.fdoca.specs.Unfolding.{Described, array, fieldOf, groupFields, addFields, Layouts, closed, closeRow, unfoldSDA, unfoldRLO, unfoldCPT, unfoldConstruct, unfoldTriplet, unfoldTriplets, start}
 use Rattle.fdoca.proofs.Results.{ok-of, ok-bind, ok-reject}
-use Rattle.fdoca.proofs.Triplets.{tripletsAt, triplets-short, triplets-past, triplets-next}
-use Rattle.fdoca.proofs.Count.{entry, entry?, entries, state, closed-state, lookup-entries, check-triplet}
+use Rattle.fdoca.specs.Between.{tripletsAt, entry, entries, state}
+use Rattle.fdoca.proofs.Triplets.{triplets-short, triplets-past, triplets-next}
+use Rattle.fdoca.proofs.Count.{entry?, closed-state, lookup-entries, check-triplet}
 use Rattle.plans.specs.Plan.{entryOf, Proper}
 use Rattle.plans.specs.Tied.{groupsIn, groupsAt, lowerOf, SdaKept}
 use Rattle.triplets.specs.Judged.{Positive, Entered, described, rowAtHand, outcome, GoodRow, JudgedISD}

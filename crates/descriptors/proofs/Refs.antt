@@ -14,7 +14,8 @@ use Rattle.fdoca.specs.Check.{maxItems, countTaken, addGroup, addGroups}
 use Rattle.fdoca.specs.Check as C
 use Rattle.fdoca.specs.Unfolding.{Described, array, row}
 use Rattle.fdoca.proofs.Results.{ok-bind, ok-reject}
-use Rattle.fdoca.proofs.Count.{entry, entry?, entries, lookup-entries}
+use Rattle.fdoca.specs.Between.{entry, entries}
+use Rattle.fdoca.proofs.Count.{entry?, lookup-entries}
 use Rattle.plans.specs.Tied.{Takes, all, some-of}
 use Rattle.descriptors.specs.Holds.{RefersIn}
 use Rattle.descriptors.proofs.Rows.{AllGroups}

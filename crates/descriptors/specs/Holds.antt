@@ -13,8 +13,7 @@ use Rattle.fdoca.specs.Item.{Field}
 use Rattle.fdoca.specs.Check.{Entry, goodSDA, checkSDA, checkRLO, checkCPT, checkTriplets, begin, check}
 use Rattle.fdoca.specs.Calls.{checked}
 use Rattle.fdoca.specs.Unfolding.{Described, array, row, fieldsOf, Layouts, closed, unfoldTriplets, start, unfolded, addFields}
-use Rattle.fdoca.proofs.Triplets.{tripletsAt}
-use Rattle.fdoca.proofs.Count.{entries, state}
+use Rattle.fdoca.specs.Between.{tripletsAt, entries, state}
 use Rattle.plans.specs.Tied.{groupsAt, groupsIn, Groups, Takes, SdaKept, Tied, Known, listOf}
 use Rattle.triplets.specs.Judged.{Agrees, described, rowAtHand, GoodRow}
 use Rattle.triplets.specs.Kept.{PutSDA}

@@ -16,8 +16,9 @@ use Rattle.fdoca.specs.Triplet as T
 use Rattle.fdoca.specs.Check.{Entry, State, closed, maxDescriptor, checkTriplet, checkTriplets, begin, lastCount, check}
 use Rattle.fdoca.specs.Reasons.{place, LENGTH, Whole, There, Is, Describes, below-2, past-the-end, OfTriplet, torn, OfDescriptor, oversize, nothing-described, Earlier, here, further, First}
 use Rattle.fdoca.specs.Reasons as R
+use Rattle.fdoca.specs.Between.{tripletsAt}
 use Rattle.fdoca.proofs.Tests.{by-order}
-use Rattle.fdoca.proofs.Triplets.{tripletsAt, triplets-end, triplets-short, triplets-past, triplets-next}
+use Rattle.fdoca.proofs.Triplets.{triplets-end, triplets-short, triplets-past, triplets-next}
 use Rattle.fdoca.proofs.TripletBytes.{bytesOf}
 use Rattle.fdoca.proofs.TripletRows.{Clear, Judged, refused, passed, first-number}
 use Rattle.fdoca.proofs.Groups.{Known}

@@ -14,29 +14,14 @@ use Rattle.fdoca.specs.Basics.{if_then_else_, elem, lookup, repeat, prod
 use Rattle.fdoca.specs.Triplet.{Triplet, torn, triplet, triplets, Construct, SDA, RLO, ISD, CPT, constructOf, idOf, codeOf, extentsOf, Group, groupsOf}
 use Rattle.fdoca.specs.FieldType.{FieldType, typeOf}
 use Rattle.fdoca.specs.Item.{Field}
+use Rattle.fdoca.specs.Between.{entry, entries, rowCounted, state}
 use Rattle.fdoca.proofs.Results.{IfOk, none-owed, holds, bind-all, the-all, reject-all, ok-of}
 use Rattle.fdoca.specs.Check as C
 use Rattle.fdoca.specs.Unfolding as U
 
--- the check's view of what the unfolding keeps
-abbrev pub entry : U.Described → C.Entry
-entry (U.array f xs) = C.array xs
-entry (U.row l) = C.row (length l)
-
-abbrev pub entries : List (ℕ × U.Described) → List (ℕ × C.Entry)
-entries [] = []
-entries (d ∷ ds) = (d .0, entry (d .1)) ∷ entries ds
-
 abbrev pub entry? : Option U.Described → Option C.Entry
 entry? none = none
 entry? (some d) = some (entry d)
-
-abbrev pub counted : Option (ℕ × List Field) → Option (ℕ × ℕ)
-counted none = none
-counted (some r) = some (r .0, length (r .1))
-
-abbrev pub state : U.Layouts → C.State
-state u = record { described = entries (u .described); current = counted (u .current) }
 
 entry-if : (b : Bool) (x y : Option U.Described) → (if b then entry? x else entry? y) ≡ entry? (if b then x else y)
 entry-if true x y = refl
@@ -49,7 +34,7 @@ lookup-entries i (d ∷ ds) = rw (lookup-entries i ds) (entry-if (eqb i (d .0)) 
 pub closed-state : (u : U.Layouts) → C.closed (state u) ≡ entries (U.closed u)
 closed-state u = go (u .current)
   where
-    go : (o : Option (ℕ × List Field)) → C.closeRow (entries (u .described)) (counted o) ≡ entries (U.closeRow (u .described) o)
+    go : (o : Option (ℕ × List Field)) → C.closeRow (entries (u .described)) (rowCounted o) ≡ entries (U.closeRow (u .described) o)
     go none = refl
     go (some r) = refl
 
@@ -120,7 +105,7 @@ unfolding C.checkCPT U.unfoldCPT
 check-CPT u p t = go (u .current)
   where
     go : (o : Option (ℕ × List Field))
-        → IfOk (λ st. st ≡ state (U.unfoldCPT o u t)) (C.checkCPT (record { described = entries (u .described); current = counted o }) p t)
+        → IfOk (λ st. st ≡ state (U.unfoldCPT o u t)) (C.checkCPT (record { described = entries (u .described); current = rowCounted o }) p t)
     go none = none-owed
     go (some r) =
         reject-all (not (C.goodLengthRow t)) 5 p (λ h. reject-all (not (eqb (idOf t) 0)) 6 p

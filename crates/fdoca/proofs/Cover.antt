@@ -14,6 +14,7 @@ use borrow.Author.Tests.{ltb-true, ltb-false}
 use Rattle.fdoca.specs.Basics.{Result, refuse, ok, _>>=_, _>>_}
 use Rattle.fdoca.specs.Item.{Field, Measured, refused, item, measure}
 use Rattle.fdoca.specs.Walk.{Note, itemLength, Cut, noteOf, with, cutFrom, walk}
+use Rattle.fdoca.specs.Between.{Stands}
 use Rattle.fdoca.proofs.Within.{Within, within}
 use Rattle.fdoca.proofs.Results.{IfOk, none-owed, holds, bind-all, reject-all, ok-of}
 
@@ -180,11 +181,6 @@ cut-append p (f ∷ fs) gs s = go (noteOf f p (measure f s)) (λ q t. cut-append
     go (ok n) ih =
         ap (λ x. x >>= (λ c. ok (with n c))) (ih (p + itemLength n) (drop (itemLength n) s))
         ∙ with-joined n (λ q t. cutFrom q gs t) (cutFrom (p + itemLength n) fs (drop (itemLength n) s))
-
--- a note of an item that stands at its start: measured there again, it is what was noted
-pub record Stands (s : List ℕ) (n : Note) : Type 0 where
-  pub starts : n .start ≤ length s
-  pub measured : measure (n .field) (drop (n .start) s) ≡ item (n .isNull) (n .prefix) (n .value) (n .padding)
 
 pub data Standing (s : List ℕ) : List Note → Type 0 where
   none-left : Standing s []

@@ -21,7 +21,8 @@ use Rattle.fdoca.specs.Check as C
 use Rattle.fdoca.specs.Unfolding.{Described, array, row, fieldsOf, fieldsTaken, fieldsReferred, groupFields, addFields, fieldOf, Layouts, closeRow, closed, unfoldSDA, unfoldRLO, unfoldCPT, unfoldConstruct, unfoldTriplet, unfoldTriplets, start, lastFields, unfolded}
 use Rattle.fdoca.proofs.Results.{IfOk, none-owed, holds, bind-all, reject-all, ok-of, both-all, always}
 use Rattle.fdoca.proofs.Tests.{by-test, by-le, and-left, and-right}
-use Rattle.fdoca.proofs.Count.{entries, state, closed-state, check-triplet}
+use Rattle.fdoca.specs.Between.{entries, state}
+use Rattle.fdoca.proofs.Count.{closed-state, check-triplet}
 
 pub record GoodField (f : Field) : Type 0 where
   pub typed : typeOf (f .code) ≡ some (f .type)

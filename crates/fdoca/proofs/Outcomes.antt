@@ -8,18 +8,8 @@ use lib.ListN.{length, take}
 use Rattle.fdoca.specs.Basics.{big}
 use Rattle.fdoca.specs.FieldType.{LengthField, Layout, fixed, counted, terminated}
 use Rattle.fdoca.specs.Item.{Measured, refused, item, Space, unbounded, limited, reserved, space, width, isNegative, isOver, unused, measureFixed, measureBody, measureCounted, beforeZero, measureTerminated, measureValue, indicated, measureNullable, measureItem}
+use Rattle.fdoca.specs.Between.{widthOf, valueLength}
 use Rattle.fdoca.proofs.Tests.{by-test, by-le, by-lt}
-
--- how long a layout's length field is, and the value whose length it tells, where both stand at the beginning of the bytes s
-unfoldable pub widthOf : Layout → ℕ
-widthOf fixed = 0
-widthOf (counted k) = width k
-widthOf terminated = 0
-
-unfoldable pub valueLength : Layout → (F : ℕ) → List ℕ → ℕ
-valueLength fixed F s = F
-valueLength (counted k) F s = big (take (width k) s)
-valueLength terminated F s = beforeZero s
 
 -- holds of every outcome for a value
 pub record HoldsFor (l : Layout) (F : ℕ) (s : List ℕ) (P : Measured → Type 0) : Type 0 where

@@ -9,7 +9,8 @@ use lib.Dec.{ltb}
 use lib.ListN.{length, take, drop, getD, length-drop}
 use lib.Seq.{drop-cons, drop-drop}
 use borrow.Author.Tests.{lt-ltb, le-ltb}
-use Rattle.fdoca.specs.Triplet.{Triplet, torn, triplet, tripletsFrom}
+use Rattle.fdoca.specs.Triplet.{torn, triplet, tripletsFrom}
+use Rattle.fdoca.specs.Between.{tripletsAt}
 
 -- Fuel beyond the number of bytes changes nothing.
 pub fuel : (m n p : ℕ) (s : List ℕ) → length s ≤ m → length s ≤ n → tripletsFrom m p s ≡ tripletsFrom n p s
@@ -23,10 +24,6 @@ fuel (suc m) (suc n) p (zero ∷ s) h k = refl
 fuel (suc m) (suc n) p (suc b ∷ s) h k =
     let d : length (drop b s) ≡ length s - b = length-drop b s in
     rw (fuel m n (p + suc b) (drop b s) (omega arith) (omega arith))
-
--- The triplets from the place p on, as a loop over places meets them.
-abbrev pub tripletsAt : List ℕ → ℕ → List Triplet
-tripletsAt d p = tripletsFrom (length d - p) p (drop p d)
 
 pub triplets-end : (d : List ℕ) (p : ℕ) → length d ≤ p → tripletsAt d p ≡ []
 triplets-end d p h = let e : length d - p ≡ 0 = omega arith in rw e

@@ -9,3 +9,4 @@ pub mod Calls
 pub mod Dump
 pub mod Account
 pub mod Reasons
+pub mod Between

@@ -12,7 +12,8 @@ use Rattle.fdoca.specs.Basics.{if_then_else_, big}
 use Rattle.fdoca.specs.FieldType.{Layout, fixed, counted, terminated, signedTwo, unsignedOne}
 use Rattle.fdoca.specs.Item.{refused, item, measureValue, measureItem}
 use Rattle.fdoca.specs.Item as defined
-use Rattle.fdoca.proofs.Outcomes.{widthOf, valueLength, of-layout}
+use Rattle.fdoca.specs.Between.{widthOf, valueLength}
+use Rattle.fdoca.proofs.Outcomes.{of-layout}
 use Rattle.field_types.specs.Rows.{layoutOf}
 use Rattle.field_types.proofs.Pairs.{two-at}
 use Rattle.items.specs.declared.Measured.{Measured}

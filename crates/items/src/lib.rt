@@ -5,7 +5,7 @@ ghost use mathlib.Core.Bool.{false};
 ghost use lib.ListN.{length, drop};
 ghost use Rattle.fdoca.specs.FieldType.{signedTwo, unsignedOne};
 ghost use Rattle.fdoca.specs.Item.{refused, item, unbounded, limited, reserved, space, measureFixed, measureCounted, beforeZero, measureTerminated, measureValue, measureItem};
-ghost use Rattle.fdoca.proofs.Outcomes.{widthOf, valueLength};
+ghost use Rattle.fdoca.specs.Between.{widthOf, valueLength};
 ghost use Rattle.field_types.specs.Rows.{layoutOf};
 ghost use Rattle.items.specs.Answer.{answer, measureSent, measureRanged, measureIndicator, movedBy};
 ghost use Rattle.items.specs.Known.{Good, PartsOf};

@@ -7,7 +7,8 @@ use mathlib.Core.List.{List, [], _∷_, map}
 use lib.ListN.{length, getD, drop}
 use Rattle.fdoca.specs.Walk.{Note}
 use Rattle.fdoca.specs.Dump.{itemLine, itemLines}
-use Rattle.fdoca.proofs.Cover.{Stands, Standing, none-left, one-more}
+use Rattle.fdoca.specs.Between.{Stands}
+use Rattle.fdoca.proofs.Cover.{Standing, none-left, one-more}
 use Rattle.plans.specs.Plan.{Proper}
 use Rattle.items.specs.Answer.{answer}
 use Rattle.walks.specs.Entry.{measureEntry}

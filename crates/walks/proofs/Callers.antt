@@ -5,8 +5,7 @@ use mathlib.Core.Path.{_≡_, refl, sym, ap, _∙_}
 use mathlib.Core.List.{List, [], _∷_, map}
 use mathlib.Core.Option.{Option, none, some}
 use native.Mathlib.Omega.{arith}
-use lib.ListN.{length, take, drop, getElem?, length-map}
-use Rattle.fdoca.specs.declared.State.{State}
+use lib.ListN.{length, getElem?, length-map}
 use Rattle.fdoca.specs.Basics.{Result, refuse, ok, the}
 use Rattle.fdoca.specs.Item.{Field}
 use Rattle.fdoca.specs.Walk.{Note, itemLength, walk}
@@ -16,7 +15,7 @@ use Rattle.fdoca.proofs.Cover.{sum, positions, lengths, walk-covers}
 use Rattle.plans.specs.Plan.{entryOf, Proper, Planned, empty, entry}
 use Rattle.walks.specs.declared.Found.{Found}
 use Rattle.walks.specs.Marks.{Noted, nothing, item}
-use Rattle.walks.specs.Finding.{foundOf, itemOf}
+use Rattle.walks.specs.Finding.{foundOf, itemOf, stateFound, lentFound}
 use Rattle.walks.proofs.Parts.{code-part}
 
 planned-length : {es : List ℕ} {fs : List Field} → Planned es fs → length es ≡ length fs
@@ -74,13 +73,6 @@ inside-of : (s : List ℕ) (x : Result Note) → IfOk (Sound s) x → foundOf x 
 unfolding foundOf
 inside-of s (refuse n p) h = omega arith
 inside-of s (ok n) (holds h) = omega (arith, h .inside)
-
--- the answers of the calls for one item, by what was found
-abbrev pub stateFound : Found → State
-stateFound r = record { number = r .number; place = r .place; null = r .null; code = r .entry / 16777216 % 256; length = r .value }
-
-abbrev pub lentFound : List ℕ → Found → List ℕ
-lentFound s r = take (r .value) (drop (r .start + r .prefix) s)
 
 state-of : (s : List ℕ) (x : Result Note) → IfOk (Sound s) x → stateFound (foundOf x) ≡ stateOf x
 unfolding foundOf

@@ -1,13 +1,14 @@
 -- One item of a block: where it starts, and how its bytes are laid out.
-use Prim.Native.Nat.{ℕ}
+use Prim.Native.Nat.{ℕ, _+_, _/_, _%_}
 use mathlib.Core.Path.{_≡_}
 use mathlib.Core.Bool.{false}
 use mathlib.Core.List.{List}
-use lib.ListN.{getElem?}
+use lib.ListN.{take, drop, getElem?}
+use Rattle.fdoca.specs.declared.State.{State}
 use Rattle.fdoca.specs.Basics.{Result, refuse, ok, _>>=_, the}
 use Rattle.fdoca.specs.Item.{Field}
 use Rattle.fdoca.specs.Walk.{Note, walk}
-use Rattle.fdoca.proofs.Cover.{Stands}
+use Rattle.fdoca.specs.Between.{Stands}
 use Rattle.plans.specs.Plan.{entryOf, Proper, Planned}
 use Rattle.walks.specs.declared.Found.{Found}
 use Rattle.walks.specs.Marks.{markOf}
@@ -16,6 +17,13 @@ use Rattle.walks.specs.Marks.{markOf}
 unfoldable pub foundOf : Result Note → Found
 foundOf (refuse n p) = record { number = n; place = p; start = 0; null = false; prefix = 0; value = 0; entry = 0 }
 foundOf (ok n) = record { number = 0; place = 0; start = n .start; null = n .isNull; prefix = n .prefix; value = n .value; entry = entryOf (n .field) }
+
+-- The answers of the calls for one item, by what was found.
+abbrev pub stateFound : Found → State
+stateFound r = record { number = r .number; place = r .place; null = r .null; code = r .entry / 16777216 % 256; length = r .value }
+
+abbrev pub lentFound : List ℕ → Found → List ℕ
+lentFound s r = take (r .value) (drop (r .start + r .prefix) s)
 
 -- Item k of the fields in the data: refusals of the walk come first, then 17.
 unfoldable pub itemOf : List Field → List ℕ → (k : ℕ) → Result Note

@@ -2,7 +2,7 @@
 -- Assumes nothing.
 use borrow.Author.Needs.{needs}
 use Rattle.fdoca.proofs.Tests.{tests}
-use Rattle.fdoca.proofs.Outcomes.{valueLength}
+use Rattle.fdoca.specs.Between.{valueLength}
 use Rattle.field_types.specs.Rows.{layoutOf}
 use Rattle.items.proofs.Shapes.{one-there, two-begin, two-there, one-told, two-told}
 use Rattle.items.proofs.value_length.Statement.{statement}

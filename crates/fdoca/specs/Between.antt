@@ -1,0 +1,49 @@
+-- Definitions that contracts between crates cite and that no call's definition needs.
+use Prim.Native.Nat.{ℕ, _-_, _≤_}
+use mathlib.Core.Path.{_≡_}
+use mathlib.Core.List.{List, [], _∷_}
+use mathlib.Core.Option.{Option, none, some}
+use lib.ListN.{length, take, drop}
+use Rattle.fdoca.specs.Basics.{big}
+use Rattle.fdoca.specs.FieldType.{Layout, fixed, counted, terminated}
+use Rattle.fdoca.specs.Item.{Field, item, width, beforeZero, measure}
+use Rattle.fdoca.specs.Walk.{Note}
+use Rattle.fdoca.specs.Triplet.{Triplet, tripletsFrom}
+use Rattle.fdoca.specs.Check as C
+use Rattle.fdoca.specs.Unfolding as U
+
+-- How long a layout's length field is, and the value whose length it tells, where both stand at the beginning of the bytes s.
+unfoldable pub widthOf : Layout → ℕ
+widthOf fixed = 0
+widthOf (counted k) = width k
+widthOf terminated = 0
+
+unfoldable pub valueLength : Layout → (F : ℕ) → List ℕ → ℕ
+valueLength fixed F s = F
+valueLength (counted k) F s = big (take (width k) s)
+valueLength terminated F s = beforeZero s
+
+-- A note of an item that stands at its start: measured there again, it is what was noted.
+pub record Stands (s : List ℕ) (n : Note) : Type 0 where
+  pub starts : n .start ≤ length s
+  pub measured : measure (n .field) (drop (n .start) s) ≡ item (n .isNull) (n .prefix) (n .value) (n .padding)
+
+-- The triplets from the place p on, as a loop over places meets them.
+abbrev pub tripletsAt : List ℕ → ℕ → List Triplet
+tripletsAt d p = tripletsFrom (length d - p) p (drop p d)
+
+-- The check's view of what the unfolding keeps: extents for a field with extents, a count for a list.
+abbrev pub entry : U.Described → C.Entry
+entry (U.array f xs) = C.array xs
+entry (U.row l) = C.row (length l)
+
+abbrev pub entries : List (ℕ × U.Described) → List (ℕ × C.Entry)
+entries [] = []
+entries (d ∷ ds) = (d .0, entry (d .1)) ∷ entries ds
+
+abbrev pub rowCounted : Option (ℕ × List Field) → Option (ℕ × ℕ)
+rowCounted none = none
+rowCounted (some r) = some (r .0, length (r .1))
+
+abbrev pub state : U.Layouts → C.State
+state u = record { described = entries (u .described); current = rowCounted (u .current) }
