@@ -73,9 +73,8 @@ module _ (d x : List ℕ) (i : ℕ) where
   unfolding foundOf
   nothing-found n p r e q =
       let a : r .start + r .prefix + r .value ≤ length x = rw q (omega arith) in
-      let b : r .value ≤ 32768 = rw q (omega arith) in
-      let c : r .start ≤ 32768 = rw q (omega arith) in
-      rw e (record { found = q; inside = a; small = b; low = c; state = rw q; lends = rw q })
+      let b : r .start + r .prefix + r .value ≤ 32768 = rw q (omega arith) in
+      rw e (record { found = q; inside = a; small = b; state = rw q })
 
   pub item-over : (r : Found) → 32768 < length x → r ≡ foundOf (refuse 1 0) → FoundAs (itemAt d x i) x r
   unfolding itemAt

@@ -21,7 +21,7 @@ use Rattle.walks.specs.declared.Stop.{Stop}
 use Rattle.walks.specs.declared.Found.{Found}
 use Rattle.walks.specs.Finding.{foundOf, itemOf, IsPlan}
 use Rattle.walks.specs.Marks.{markOf, stopOf, Marked, Noted}
-use Rattle.walks.proofs.Callers.{as-many, all-noted, found-inside, found-state, found-lent}
+use Rattle.walks.proofs.Callers.{as-many, all-noted, found-inside, found-state}
 use Rattle.blocks.specs.Answers.{itemsInto, ListedAs, FoundAs}
 
 module _ (d s z e plan : List ℕ) (id : ℕ) (rd : Ready d s z e id (length plan)) where
@@ -41,9 +41,7 @@ module _ (d s z e plan : List ℕ) (id : ℕ) (rd : Ready d s z e id (length pla
           found = h;
           inside = found-inside plan′ (unfolded d) x k r p h;
           small = omega (arith, found-inside plan′ (unfolded d) x k r p h);
-          low = omega (arith, found-inside plan′ (unfolded d) x k r p h);
           state = found-state plan′ (unfolded d) x k r p h;
-          lends = found-lent plan′ (unfolded d) x k r p h;
         }
 
     module _ (x plan″ old : List ℕ) (stop : Stop) (f : (fs : List Field) → Planned plan′ fs → Marked stop plan″ (walk fs x)) where

@@ -1,4 +1,4 @@
--- A found item's value: the part of the data that holds it, and the whole number that it is.
+-- The whole number that a found item's value is.
 -- Assumes nothing.
 use mathlib.Core.Path.{_≡_, refl, sym, ap, _∙_}
 use Prim.Native.Nat.{ℕ, _+_, _-_, _/_, _%_, _≤_, _<_}
@@ -19,7 +19,7 @@ use Rattle.fdoca.specs.declared.Whole.{Whole}
 use Rattle.fdoca.specs.Basics.{if_then_else_, elem, Result, refuse, ok, _>>=_, the}
 use Rattle.fdoca.specs.FieldType.{FieldType, fixedBytes, variableBytes, terminatedBytes, shortBytes, integer, reversedInteger, hexFloat, reversedFloat, binaryFloat, fixed, allows, typeOf, ruleOf}
 use Rattle.fdoca.specs.Walk.{Note}
-use Rattle.fdoca.specs.Calls.{itemAt, valueOf, wholeOf, wholeNumber, wholeAnswer, stateOf, lent}
+use Rattle.fdoca.specs.Calls.{itemAt, valueOf, wholeOf, wholeNumber, wholeAnswer, stateOf}
 use Rattle.fdoca.proofs.Fields.{GoodNote, item-good}
 use Rattle.fdoca.proofs.Numbers.{item-number}
 use Rattle.field_types.specs.Rows.{rowOf}
@@ -28,10 +28,6 @@ use Rattle.numbers.proofs.Whole.{read-integer, read-reversed}
 use Rattle.walks.specs.declared.Found.{Found}
 use Rattle.walks.specs.Finding.{foundOf}
 use Rattle.blocks.specs.Answers.{FoundAs}
-
-pub lend-way : (x : Result Note) (s : List ℕ) (r : Found) → FoundAs x s r
-    → take (r .start + r .prefix + r .value - (r .start + r .prefix)) (drop (r .start + r .prefix) s) ≡ lent s x
-lend-way x s r w = ap (λ n. take n (drop (r .start + r .prefix) s)) (add-sub-cancel-left (r .start + r .prefix) (r .value)) ∙ w .lends
 
 abbrev wholly : ℤ → Whole
 wholly z = record { number = 0; place = 0; null = false; value = z }
@@ -108,20 +104,19 @@ module _ (d x : List ℕ) (i : ℕ) (f : Found) (w : FoundAs (itemAt d x i) x f)
 
   the-item : f .number ≡ 0 → TheItem
   unfolding foundOf
-  the-item h = go (itemAt d x i) refl (w .found) (w .state) (w .lends)
+  the-item h = go (itemAt d x i) refl (w .found) (w .state)
     where
       go : (r : Result Note) → itemAt d x i ≡ r → f ≡ foundOf r
-          → record { number = f .number; place = f .place; null = f .null; code = f .entry / 16777216 % 256; length = f .value } ≡ stateOf r
-          → take (f .value) (drop (f .start + f .prefix) x) ≡ lent x r → TheItem
-      go (refuse n p) e a b c = absurd (let z : n ≡ 0 = rw a at h in let k : ⊥ = omega (arith, item-number d x i n p e) in k)
-      go (ok n) e a b c =
+          → record { number = f .number; place = f .place; null = f .null; code = f .entry / 16777216 % 256; length = f .value } ≡ stateOf r → TheItem
+      go (refuse n p) e a b = absurd (let z : n ≡ 0 = rw a at h in let k : ⊥ = omega (arith, item-number d x i n p e) in k)
+      go (ok n) e a b =
           record {
             note = n;
             is-item = e;
             start-is = rw a;
             null-is = rw a;
             code-is = ap (λ (s : State). s .code) b;
-            value-is = c;
+            value-is = rw a;
             good = item-good d x i n e;
           }
 

@@ -7,9 +7,9 @@ use Rattle.fdoca.specs.declared.Listed.{Listed}
 use Rattle.fdoca.specs.Basics.{Result, ok, _>>=_}
 use Rattle.fdoca.specs.Item.{Field}
 use Rattle.fdoca.specs.Walk.{Note, walk}
-use Rattle.fdoca.specs.Calls.{itemList, listed, entriesAfter, stateOf, lent}
+use Rattle.fdoca.specs.Calls.{itemList, listed, entriesAfter, stateOf}
 use Rattle.walks.specs.declared.Found.{Found}
-use Rattle.walks.specs.Finding.{foundOf, stateFound, lentFound}
+use Rattle.walks.specs.Finding.{foundOf, stateFound}
 
 -- The caller's list with the items of n fields, or the walk's refusal.
 unfoldable pub itemsInto : (n : ℕ) → List Field → List ℕ → List ℕ → Result (List ℕ)
@@ -24,7 +24,5 @@ pub record ListedAs (x : Result (List ℕ)) (old : List ℕ) (r : Listed) (new :
 pub record FoundAs (x : Result Note) (s : List ℕ) (r : Found) : Type 0 where
   pub found : r ≡ foundOf x
   pub inside : r .start + r .prefix + r .value ≤ length s
-  pub small : r .value ≤ 32768
-  pub low : r .start ≤ 32768
+  pub small : r .start + r .prefix + r .value ≤ 32768
   pub state : stateFound r ≡ stateOf x
-  pub lends : lentFound s r ≡ lent s x

@@ -5,15 +5,24 @@ ghost use lib.ListN.{length};
 ghost use Rattle.fdoca.specs.Basics.{refuse};
 ghost use Rattle.fdoca.specs.Unfolding.{unfolded};
 ghost use Rattle.fdoca.specs.Calls as calls;
-ghost use Rattle.fdoca.specs.Calls.{itemAt, stateOf, lent, wholeNumber, wholeAnswer};
+ghost use Rattle.fdoca.specs.Calls.{itemAt, stateOf, wholeNumber, wholeAnswer};
 ghost use Rattle.descriptors.specs.Holds.{Ready};
 ghost use Rattle.walks.specs.Finding.{foundOf, itemOf};
 ghost use Rattle.blocks.specs.Answers.{itemsInto, ListedAs, FoundAs};
+ghost use Rattle.blocks.specs.Lending.{lentAt, LentPart};
 use descriptors::Examined;
 use fdoca::Listed;
 use fdoca::State;
 use fdoca::Whole;
 use walks::Found;
+
+// Where an item's value lies: so many bytes behind the data's beginning, and so long. A refusal has its number and place, and zeros.
+pub struct Lent {
+    pub number: u32,
+    pub place: u32,
+    pub offset: u32,
+    pub length: u32,
+}
 
 // The largest data block.
 const MOST_DATA: usize = 32768;
@@ -259,14 +268,29 @@ pub fn state(descriptor: &[u8], data: &[u8], item: u32) -> State
     }
 }
 
-// Lends an item's value: the part of the data that holds it. On a null or a refusal it is empty, and where an empty part lies is free.
-pub fn lend<'d, 'b>(descriptor: &'d [u8], data: &'b [u8], item: u32) -> &'b [u8]
-    ensures { λ r. ⌜ now r ≡ lent (now («data» .entry)) (itemAt (now (descriptor .entry)) (now («data» .entry)) item) ⌝ }
+// Tells where an item's value lies in the data. On a null it is empty, right behind the null indicator.
+pub fn value_place(descriptor: &[u8], data: &[u8], item: u32) -> Lent
+    ensures { λ r. ⌜ (r ≡ lentAt (itemAt (now (descriptor .entry)) (now («data» .entry)) item)) × (r .offset + r .length ≤ length (now («data» .entry))) ⌝ }
 {
     let found = find(descriptor, data, item);
-    let first = found.start + found.prefix;
-    let last = first + found.value;
-    &data[first..last]
+    let offset = (found.start + found.prefix) as u32;
+    let length = found.value as u32;
+    Lent {
+        number: found.number,
+        place: found.place,
+        offset: offset,
+        length: length,
+    }
+}
+
+// Lends an item's value: the part of the data that holds it, cut at its place. On a null or a refusal it is empty.
+pub fn lend<'d, 'b>(descriptor: &'d [u8], data: &'b [u8], item: u32) -> &'b [u8]
+    ensures { λ r. ⌜ LentPart (itemAt (now (descriptor .entry)) (now («data» .entry)) item) («data» .entry) r ⌝ }
+{
+    let lies = value_place(descriptor, data, item);
+    let offset = lies.offset as usize;
+    let end = offset + lies.length as usize;
+    &data[offset..end]
 }
 
 // The answer for an item that is no whole number.

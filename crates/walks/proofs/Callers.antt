@@ -9,13 +9,13 @@ use lib.ListN.{length, getElem?, length-map}
 use Rattle.fdoca.specs.Basics.{Result, refuse, ok, the}
 use Rattle.fdoca.specs.Item.{Field}
 use Rattle.fdoca.specs.Walk.{Note, itemLength, walk}
-use Rattle.fdoca.specs.Calls.{stateOf, lent}
+use Rattle.fdoca.specs.Calls.{stateOf}
 use Rattle.fdoca.proofs.Results.{IfOk, none-owed, holds, bind-all, itself}
 use Rattle.fdoca.proofs.Cover.{sum, positions, lengths, walk-covers}
 use Rattle.plans.specs.Plan.{entryOf, Proper, Planned, empty, entry}
 use Rattle.walks.specs.declared.Found.{Found}
 use Rattle.walks.specs.Marks.{Noted, nothing, item}
-use Rattle.walks.specs.Finding.{foundOf, itemOf, stateFound, lentFound}
+use Rattle.walks.specs.Finding.{foundOf, itemOf, stateFound}
 use Rattle.walks.proofs.Parts.{code-part}
 
 planned-length : {es : List ℕ} {fs : List Field} → Planned es fs → length es ≡ length fs
@@ -81,17 +81,9 @@ state-of s (ok n) (holds h) =
     let z : entryOf (n .field) / 16777216 % 256 ≡ n .field .code = omega (arith, code-part (n .field) 0 (h .proper)) in
     rw z
 
-lent-of : (s : List ℕ) (x : Result Note) → lentFound s (foundOf x) ≡ lent s x
-unfolding foundOf
-lent-of s (refuse n p) = refl
-lent-of s (ok n) = refl
-
 module _ (es : List ℕ) (fs : List Field) (s : List ℕ) (k : ℕ) (r : Found) (p : Planned es fs) (h : r ≡ foundOf (itemOf fs s k)) where
   pub found-inside : r .start + r .prefix + r .value ≤ length s
   found-inside = rw h (inside-of s (itemOf fs s k) (sound es fs s k p))
 
   pub found-state : stateFound r ≡ stateOf (itemOf fs s k)
   found-state = rw h (state-of s (itemOf fs s k) (sound es fs s k p))
-
-  pub found-lent : lentFound s r ≡ lent s (itemOf fs s k)
-  found-lent = rw h (lent-of s (itemOf fs s k))

@@ -1,9 +1,9 @@
 -- One item of a block: where it starts, and how its bytes are laid out.
-use Prim.Native.Nat.{ℕ, _+_, _/_, _%_}
+use Prim.Native.Nat.{ℕ, _/_, _%_}
 use mathlib.Core.Path.{_≡_}
 use mathlib.Core.Bool.{false}
 use mathlib.Core.List.{List}
-use lib.ListN.{take, drop, getElem?}
+use lib.ListN.{getElem?}
 use Rattle.fdoca.specs.declared.State.{State}
 use Rattle.fdoca.specs.Basics.{Result, refuse, ok, _>>=_, the}
 use Rattle.fdoca.specs.Item.{Field}
@@ -18,12 +18,9 @@ unfoldable pub foundOf : Result Note → Found
 foundOf (refuse n p) = record { number = n; place = p; start = 0; null = false; prefix = 0; value = 0; entry = 0 }
 foundOf (ok n) = record { number = 0; place = 0; start = n .start; null = n .isNull; prefix = n .prefix; value = n .value; entry = entryOf (n .field) }
 
--- The answers of the calls for one item, by what was found.
+-- The state call's answer, by what was found.
 abbrev pub stateFound : Found → State
 stateFound r = record { number = r .number; place = r .place; null = r .null; code = r .entry / 16777216 % 256; length = r .value }
-
-abbrev pub lentFound : List ℕ → Found → List ℕ
-lentFound s r = take (r .value) (drop (r .start + r .prefix) s)
 
 -- Item k of the fields in the data: refusals of the walk come first, then 17.
 unfoldable pub itemOf : List Field → List ℕ → (k : ℕ) → Result Note
