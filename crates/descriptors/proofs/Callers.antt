@@ -6,26 +6,30 @@ use native.Mathlib.Omega.{arith}
 use mathlib.Core.List.{List, map}
 use lib.ListN.{length}
 use lib.Seq.{sets, length-sets, take-all}
-use Rattle.fdoca.specs.declared.Checked.{Checked}
 use Rattle.fdoca.specs.Basics.{Result, refuse, ok}
 use Rattle.fdoca.specs.Check.{check}
 use Rattle.fdoca.specs.Unfolding.{unfolded}
 use Rattle.fdoca.specs.Calls.{checked}
 use Rattle.plans.specs.Plan.{entryOf, Planned}
-use Rattle.plans.specs.Tied.{listOf, Known}
+use Rattle.plans.specs.Tied.{describedBy, listOf, Known}
 use Rattle.plans.proofs.Fields.{planned, first-numbers}
 use Rattle.descriptors.specs.declared.Examined.{Examined}
-use Rattle.descriptors.specs.Holds.{Examination, Ready}
+use Rattle.descriptors.specs.Holds.{Ready, examined, Examination}
 
 pub refused-by : (d s z e : List ℕ) (x : Examined) → Examination d s z e x → (x .number ≡ 0 → ⊥) → check d ≡ refuse (x .number) (x .place)
-refused-by d s z e x w h = go (check d) (w .same)
+refused-by d s z e x w h = go (check d) (w .result)
   where
-    go : (c : Result ℕ) → record { number = x .number; place = x .place; items = x .items } ≡ checked c → c ≡ refuse (x .number) (x .place)
-    go (refuse n p) q =
-        let a : x .number ≡ n = ap (λ (y : Checked). y .number) q in
-        let b : x .place ≡ p = ap (λ (y : Checked). y .place) q in
-        rw (a, b)
-    go (ok n) q = absurd (h (ap (λ (y : Checked). y .number) q))
+    go : (c : Result ℕ) → x ≡ examined c (describedBy d) → c ≡ refuse (x .number) (x .place)
+    go (refuse n p) q = rw q
+    go (ok n) q = absurd (h (rw q))
+
+-- what it tells of the check
+pub as-checked : (d s z e : List ℕ) (x : Examined) → Examination d s z e x → record { number = x .number; place = x .place; items = x .items } ≡ checked (check d)
+as-checked d s z e x w = go (check d) (w .result)
+  where
+    go : (c : Result ℕ) → x ≡ examined c (describedBy d) → record { number = x .number; place = x .place; items = x .items } ≡ checked c
+    go (refuse n p) q = rw q
+    go (ok n) q = rw q
 
 module _ (d s z e plan : List ℕ) (id : ℕ) (rd : Ready d s z e id (length plan)) where
   pub ready-known : Known d id

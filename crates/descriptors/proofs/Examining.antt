@@ -13,30 +13,25 @@ use lib.ListN.{length, getD, drop, replicate, length-replicate, getD-replicate}
 use mir.Syntax.{w64}
 use mir.Val.{Fits}
 use borrow.Author.Tests.{lt-ltb, le-ltb, eq-eqb}
-use Rattle.fdoca.specs.declared.Checked.{Checked}
 use Rattle.fdoca.specs.Basics.{lookup, ok, _>>=_, _>>_}
 use Rattle.fdoca.specs.Triplet.{triplets, Group}
 use Rattle.fdoca.specs.Item.{Field}
 use Rattle.fdoca.specs.Check.{checkTriplets, lastCount, check}
 use Rattle.fdoca.specs.Check as C
 use Rattle.fdoca.specs.Unfolding.{Described, array, row, fieldsOf, Layouts, closed, unfoldTriplets, start, lastFields, unfolded}
-use Rattle.fdoca.specs.Calls.{checked}
 use Rattle.fdoca.proofs.Triplets.{triplets-end}
 use Rattle.fdoca.specs.Between.{entries, state}
 use Rattle.fdoca.proofs.Count.{closed-state, length-fieldsOf}
 use Rattle.plans.specs.Tied.{Refers, RowAt, Kept, Tied, describedBy, listOf, rowList}
 use Rattle.descriptors.specs.declared.Step.{Step}
 use Rattle.descriptors.specs.declared.Examined.{Examined}
-use Rattle.descriptors.specs.Holds.{RefersIn, RowIn, KeptIn, Tables, no-head, Last, Holds, Held, ClosedRow, Bare, Advanced, Ready, Examination}
+use Rattle.descriptors.specs.Holds.{RefersIn, RowIn, KeptIn, Tables, no-head, Last, Holds, Held, ClosedRow, Bare, Advanced, Ready, lastId, examined, Examination}
 use Rattle.descriptors.proofs.Rows.{groups-map}
-
-abbrev answered : ℕ → Checked
-answered n = record { number = 0; place = 0; items = n }
 
 pub oversized : (d s z e : List ℕ) (r : Examined) (most : ℕ) → 4096 ≤ most → most < length d → r ≡ record { number = 1; place = 0; items = 0; id = 0 } → Examination d s z e r
 unfolding check
 oversized d s z e r most m h q =
-    record { same = rw (q, lt-ltb 4096 (length d) (omega arith)); ready = λ k. absurd (let w : 1 ≡ 0 = rw q at k in let y : ⊥ = omega arith in y) }
+    record { result = rw (q, lt-ltb 4096 (length d) (omega arith)); ready = λ k. absurd (let w : 1 ≡ 0 = rw q at k in let y : ⊥ = omega arith in y) }
 
 -- before the first triplet
 pub at-first : (d s z e : List ℕ) (x : Step) → s ≡ replicate 256 65535 → z ≡ replicate 256 0 → e ≡ replicate 256 0 → Bare 0 x → Held d s z e 0 x
@@ -76,7 +71,7 @@ module _ (d s z e : List ℕ) (p : ℕ) (x : Step) where
     pub stopped : (r : Examined) → length d ≤ 4096 → (x .number ≡ 0 → ⊥) → r ≡ record { number = x .number; place = p; items = 0; id = 0 } → Examination d s z e r
     unfolding check
     stopped r small h q =
-        record { same = rw (q, le-ltb 4096 (length d) small, a .refuses h); ready = λ k. absurd (h (ap (λ (w : Examined). w .number) (sym q) ∙ k)) }
+        record { result = rw (q, le-ltb 4096 (length d) small, a .refuses h); ready = λ k. absurd (h (ap (λ (w : Examined). w .number) (sym q) ∙ k)) }
 
   -- behind the last triplet
   module _ (held : Held d s z e p x) (all : length d ≤ p) (small : length d ≤ 4096) where
@@ -104,10 +99,10 @@ module _ (d s z e : List ℕ) (p : ℕ) (x : Step) where
 
     pub nothing : (r : Examined) → x .id ≡ 0 → r ≡ record { number = 11; place = p; items = 0; id = 0 } → Examination d s z e r
     nothing r z₀ q =
-        record { same = rw (q, the-check) (go (closed u) (h .last)); ready = λ k. absurd (let w : 11 ≡ 0 = rw q at k in let y : ⊥ = omega arith in y) }
+        record { result = rw (q, the-check) (go (closed u) (h .last)); ready = λ k. absurd (let w : 11 ≡ 0 = rw q at k in let y : ⊥ = omega arith in y) }
       where
         go : (ds : List (ℕ × Described)) → Last x ds
-            → record { number = 11; place = p; items = 0 } ≡ checked (lastCount (length d) (entries ds))
+            → record { number = 11; place = p; items = 0; id = 0 } ≡ examined (lastCount (length d) (entries ds)) (describedBy d)
         go [] l = let m : p ≡ length d = omega (arith, h .there) in rw m
         go (c ∷ ds) l = absurd (l .1 z₀)
 
@@ -142,6 +137,7 @@ module _ (d s z e : List ℕ) (p : ℕ) (x : Step) where
         count-is : x .count ≡ length (fieldsOf what)
         unfolds-to : lastFields (closed u) ≡ fieldsOf what
         checks-to : lastCount (length d) (entries (closed u)) ≡ ok (length (fieldsOf what))
+        id-is : x .id ≡ lastId (closed u)
 
       last-of : x .id ≢ 0 → LastOf
       last-of k = go (closed u) refl (h .last)
@@ -156,6 +152,7 @@ module _ (d s z e : List ℕ) (p : ℕ) (x : Step) where
                 count-is = l .2;
                 unfolds-to = rw q;
                 checks-to = rw q (ap ok (sym (length-fieldsOf (c .1))));
+                id-is = rw q (l .0);
               }
 
       pub finished : (r : Examined) → (x .id ≡ 0 → ⊥) → r ≡ record { number = 0; place = 0; items = x .count; id = x .id } → Examination d s′ z′ e′ r
@@ -172,4 +169,4 @@ module _ (d s z e : List ℕ) (p : ℕ) (x : Step) where
             count = w .count-is ∙ ap length (sym eu);
             small = h .small;
           } in
-          record { same = rw q (ap answered (w .count-is) ∙ sym (ap checked (the-check ∙ w .checks-to))); ready = λ n. rw q rd }
+          record { result = rw (q, rd .accepted, all-described, ← w .id-is); ready = λ n. rw q rd }

@@ -6,15 +6,13 @@ use mathlib.Core.Bool.{true, false}
 use mathlib.Core.List.{List, [], _∷_, _++_}
 use mathlib.Core.Option.{Option, none, some}
 use lib.ListN.{length, getD, drop}
-use Rattle.fdoca.specs.declared.Checked.{Checked}
-use Rattle.fdoca.specs.Basics.{product, lookup, refuse, ok}
+use Rattle.fdoca.specs.Basics.{product, lookup, Result, refuse, ok}
 use Rattle.fdoca.specs.Triplet.{triplets, Group, idOf, extentsOf}
 use Rattle.fdoca.specs.Item.{Field}
 use Rattle.fdoca.specs.Check.{Entry, goodSDA, checkSDA, checkRLO, checkCPT, checkTriplets, begin, check}
-use Rattle.fdoca.specs.Calls.{checked}
 use Rattle.fdoca.specs.Unfolding.{Described, array, row, fieldsOf, Layouts, closed, unfoldTriplets, start, unfolded, addFields}
 use Rattle.fdoca.specs.Between.{tripletsAt, entries, state}
-use Rattle.plans.specs.Tied.{groupsAt, groupsIn, Groups, Takes, SdaKept, Tied, Known, listOf}
+use Rattle.plans.specs.Tied.{describedBy, groupsAt, groupsIn, Groups, Takes, SdaKept, Tied, Known, listOf}
 use Rattle.triplets.specs.Judged.{Agrees, described, rowAtHand, GoodRow}
 use Rattle.triplets.specs.Kept.{PutSDA}
 use Rattle.descriptors.specs.declared.Step.{Step}
@@ -159,11 +157,17 @@ pub record Ready (d s z e : List ℕ) (id n : ℕ) : Type 0 where
   pub count : n ≡ length (unfolded d)
   pub small : n ≤ 4096
 
--- What examining tells of the check.
-abbrev pub told : Examined → Checked
-told r = record { number = r .number; place = r .place; items = r .items }
+-- The id that was described last, 0 where none is.
+abbrev pub lastId : List (ℕ × Described) → ℕ
+lastId [] = 0
+lastId (r ∷ ds) = r .0
 
--- What examining a descriptor gives, with the tables afterwards.
+-- The check's answer, and for an accepted descriptor the id that describes the block: the last one. A refusal has the id 0.
+abbrev pub examined : Result ℕ → List (ℕ × Described) → Examined
+examined (refuse n p) ds = record { number = n; place = p; items = 0; id = 0 }
+examined (ok n) ds = record { number = 0; place = 0; items = n; id = lastId ds }
+
+-- What examining a descriptor gives, with the tables afterwards; on a refusal nothing is said of the tables.
 pub record Examination (d s z e : List ℕ) (r : Examined) : Type 0 where
-  pub same : told r ≡ checked (check d)
+  pub result : r ≡ examined (check d) (describedBy d)
   pub ready : r .number ≡ 0 → Ready d s z e (r .id) (r .items)

@@ -68,7 +68,7 @@ module _ (t s z : List ℕ) (sum : ℕ) where
     pub adding-stop : (i : ℕ) (r : Sum) → g < length t → i ≡ getD t g 0 → i < 256
         → AddedGroup (getD s i 0) (getD z i 0) (getD t (g + 1) 0) (getD t (g + 2) 0) n r → (r .number ≡ 0 → ⊥) → AddedGroups (groupsOf t) s z sum r
     unfolding outcome
-    adding-stop i r h e l a q = record { result = λ p es k. step i r h e l a p es k ∙ simp (ne-eqb (r .number) 0 q); small = a .small }
+    adding-stop i r h e l a q = record { result = λ p es k. step i r h e l a p es k ∙ simp (ne-eqb (r .number) 0 q); no-count = a .no-count; small = a .small }
 
     pub adding-more : (i : ℕ) (r : Sum) → g < length t → i ≡ getD t g 0 → i < 256
         → AddedGroup (getD s i 0) (getD z i 0) (getD t (g + 1) 0) (getD t (g + 2) 0) n r → r .number ≡ 0 → Adding t s z sum (r .count) (g + 3)
@@ -86,5 +86,6 @@ module _ (t s z : List ℕ) (sum : ℕ) where
     adding-end r h e =
         record {
           result = λ p es k. inv .same p es k ∙ rw (drop-of-length-le t h, e) (found-outcome 0 p n refl);
+          no-count = λ q. absurd (q (rw e));
           small = rw e (inv .small);
         }

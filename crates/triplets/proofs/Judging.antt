@@ -35,6 +35,7 @@ module _ (t s z : List ℕ) (r : Sum) where
   rlo-bad-length a e y h f =
       record {
         result = λ p es k. rw (← h, f, e) (refused-outcome 5 p (rowAtHand (idOf t) (r .count) es) (λ q. omega arith));
+        no-count = λ q. y;
         good = λ q. absurd (let w : ⊥ = omega arith in w);
         id-given = λ q. absurd (let w : ⊥ = omega arith in w);
         small = omega arith;
@@ -45,6 +46,7 @@ module _ (t s z : List ℕ) (r : Sum) where
   cpt-bad-length sum a e y h f =
       record {
         result = λ p id es k. rw (← h, f, e) (refused-outcome 5 p (rowAtHand id (r .count) es) (λ q. omega arith));
+        no-count = λ q. y;
         good = λ q. absurd (let w : ⊥ = omega arith in w);
         small = omega arith;
       }
@@ -55,6 +57,7 @@ module _ (t s z : List ℕ) (r : Sum) where
     rlo-no-id e y g =
         record {
           result = λ p es k. rw (← h, f, eq-eqb (getD t 2 0) 0 g, e) (refused-outcome 6 p (rowAtHand (getD t 2 0) (r .count) es) (λ q. omega arith));
+          no-count = λ q. y;
           good = λ q. absurd (let w : ⊥ = omega arith in w);
           id-given = λ q. absurd (let w : ⊥ = omega arith in w);
           small = omega arith;
@@ -65,6 +68,7 @@ module _ (t s z : List ℕ) (r : Sum) where
     cpt-reserved sum e y g =
         record {
           result = λ p id es k. rw (← h, f, ne-eqb (getD t 2 0) 0 g, e) (refused-outcome 6 p (rowAtHand id (r .count) es) (λ q. omega arith));
+          no-count = λ q. y;
           good = λ q. absurd (let w : ⊥ = omega arith in w);
           small = omega arith;
         }
@@ -74,6 +78,7 @@ module _ (t s z : List ℕ) (r : Sum) where
     cpt-groups sum g x =
         record {
           result = λ p id es k. rw (← h, f, eq-eqb (getD t 2 0) 0 g, x .result p es k) (then-ok (λ n. rowAtHand id n es) (r .number) p (r .count));
+          no-count = x .no-count;
           good = λ q. whole-groups t (sym h ∙ f);
           small = x .small;
         }
@@ -86,6 +91,7 @@ module _ (t s z : List ℕ) (r : Sum) where
             result = λ p es w.
                 let d : isDescribed (idOf t) es ≡ true = is-described s z es (idOf t) (rw j at l) (rw j at n) w in
                 rw (← h, f, ne-eqb (getD t 2 0) 0 g, d, e) (refused-outcome 7 p (rowAtHand (getD t 2 0) (r .count) es) (λ q. omega arith));
+            no-count = λ q. y;
             good = λ q. absurd (let w : ⊥ = omega arith in w);
             id-given = λ q. absurd (let w : ⊥ = omega arith in w);
             small = omega arith;
@@ -98,6 +104,7 @@ module _ (t s z : List ℕ) (r : Sum) where
             result = λ p es w.
                 let d : isDescribed (idOf t) es ≡ false = not-described s z es (idOf t) (rw j at l) (rw j at u) w in
                 rw (← h, f, ne-eqb (getD t 2 0) 0 g, d, x .result p es w) (then-ok (λ n. rowAtHand (getD t 2 0) n es) (r .number) p (r .count));
+            no-count = x .no-count;
             good = λ q. whole-groups t (sym h ∙ f);
             id-given = λ q. (g, rw j at l);
             small = x .small;

@@ -130,35 +130,40 @@ module _ (t : List ℕ) where
 
 -- the ways through judging an SDA
 module _ (t s : List ℕ) (r : Judged) where
-  refused-by : (n : ℕ) → n ≢ 0 → r .number ≡ n → r .count ≡ 0
+  refused-by : (n : ℕ) → n ≢ 0 → r ≡ record { number = n; layout = 0; count = 0 }
       → ((p : ℕ) (z : List ℕ) (es : List (ℕ × Entry)) → Agrees s z es → checkSDA es p t ≡ refuse n p) → JudgedSDA t s r
-  refused-by n h e c f =
+  refused-by n h e f =
       record {
         result = λ p z es a. f p z es a ∙ rw e (refused-outcome n p (described (idOf t) (extentsOf t) es) h);
-        count = λ q. absurd (h (sym e ∙ q));
-        layout = λ q. absurd (h (sym e ∙ q));
-        length-good = λ q. absurd (h (sym e ∙ q));
-        good = λ q. absurd (h (sym e ∙ q));
-        small = omega arith;
+        count = λ q. absurd (not-0 q);
+        layout = λ q. absurd (not-0 q);
+        no-count = λ q. rw e;
+        no-layout = λ q. rw e;
+        length-good = λ q. absurd (not-0 q);
+        good = λ q. absurd (not-0 q);
+        small = rw e (omega arith);
       }
+    where
+      not-0 : r .number ≡ 0 → ⊥
+      not-0 q = h (rw e at q)
 
-  pub sda-bad-length : (a : Bool) → r .number ≡ 5 → r .count ≡ 0 → a ≡ goodLengthSDA t → a ≡ false → JudgedSDA t s r
+  pub sda-bad-length : (a : Bool) → r ≡ record { number = 5; layout = 0; count = 0 } → a ≡ goodLengthSDA t → a ≡ false → JudgedSDA t s r
   unfolding checkSDA
-  sda-bad-length a e c h f = refused-by 5 (λ q. omega arith) e c (λ p z es k. rw (← h, f))
+  sda-bad-length a e h f = refused-by 5 (λ q. omega arith) e (λ p z es k. rw (← h, f))
 
   module _ (a : Bool) (layout : ℕ) (h : a ≡ goodLengthSDA t) (f : a ≡ true) (g : layout ≡ layoutIf (goodSDA t) (codeOf t)) where
-    pub sda-bad : r .number ≡ 6 → r .count ≡ 0 → layout ≡ 255 → JudgedSDA t s r
+    pub sda-bad : r ≡ record { number = 6; layout = 0; count = 0 } → layout ≡ 255 → JudgedSDA t s r
     unfolding checkSDA
-    sda-bad e c n = refused-by 6 (λ q. omega arith) e c (λ p z es k. rw (← h, f, layout-none layout (codeOf t) (goodSDA t) g n))
+    sda-bad e n = refused-by 6 (λ q. omega arith) e (λ p z es k. rw (← h, f, layout-none layout (codeOf t) (goodSDA t) g n))
 
     module _ (i : ℕ) (n : layout ≡ 255 → ⊥) (j : i ≡ getD t 2 0) (l : i < 256) where
       good : goodSDA t ≡ true
       good = layout-some layout (codeOf t) (goodSDA t) g n
 
-      pub sda-taken : r .number ≡ 7 → r .count ≡ 0 → (getD s i 0 ≡ 65535 → ⊥) → JudgedSDA t s r
+      pub sda-taken : r ≡ record { number = 7; layout = 0; count = 0 } → (getD s i 0 ≡ 65535 → ⊥) → JudgedSDA t s r
       unfolding checkSDA
-      sda-taken e c u =
-          refused-by 7 (λ q. omega arith) e c
+      sda-taken e u =
+          refused-by 7 (λ q. omega arith) e
           (λ p z es w.
           let d : isDescribed (idOf t) es ≡ true = is-described s z es (idOf t) (rw j at l) (rw j at u) w in
           rw (← h, f, good, d))
@@ -167,10 +172,10 @@ module _ (t s : List ℕ) (r : Judged) where
         new : (z : List ℕ) (es : List (ℕ × Entry)) → Agrees s z es → isDescribed (idOf t) es ≡ false
         new z es w = not-described s z es (idOf t) (rw j at l) (rw j at u) w
 
-        pub sda-many : (most : ℕ) → r .number ≡ 10 → r .count ≡ 0 → 4096 ≤ most → most < count → JudgedSDA t s r
+        pub sda-many : (most : ℕ) → r ≡ record { number = 10; layout = 0; count = 0 } → 4096 ≤ most → most < count → JudgedSDA t s r
         unfolding checkSDA
-        sda-many most e c o k =
-            refused-by 10 (λ q. omega arith) e c (λ p z es w. rw (← h, f, good, new z es w, ← m, lt-ltb 4096 count (omega arith)))
+        sda-many most e o k =
+            refused-by 10 (λ q. omega arith) e (λ p z es w. rw (← h, f, good, new z es w, ← m, lt-ltb 4096 count (omega arith)))
 
         pub sda-fine : r ≡ record { number = 0; layout = layout; count = count } → count ≤ 4096 → JudgedSDA t s r
         unfolding checkSDA
@@ -180,6 +185,8 @@ module _ (t s : List ℕ) (r : Judged) where
                   rw (← h, f, good, new z es w, ← m, le-ltb 4096 count k, e) (found-outcome 0 p (described (idOf t) (extentsOf t) es) refl);
               count = λ q. rw e m;
               layout = λ q. rw e (layout-is layout (codeOf t) (goodSDA t) g good);
+              no-count = λ q. absurd (q (rw e));
+              no-layout = λ q. absurd (q (rw e));
               length-good = λ q. sym h ∙ f;
               good = λ q. good;
               small = rw e k;

@@ -1,6 +1,7 @@
 -- One group of a row, and all groups of a triplet: the refusals in order, and the count with them.
 -- Assumes nothing.
 use mathlib.Core.Path.{_≡_, refl, sym, ap, _∙_}
+use mathlib.Core.Logic.{_≢_}
 use Prim.Native.Nat.{ℕ, zero, suc, _+_, _-_, _*_, _/_, _%_, _≤_, _<_}
 use native.Mathlib.Omega.{arith}
 use mathlib.Core.Bool.{Bool, true, false}
@@ -28,6 +29,9 @@ module _ (sum n : ℕ) (small : sum ≤ 4096) where
 summed-small : (sum n : ℕ) → summed sum n .count ≤ 4096
 summed-small sum n = by-lt (λ (r : Sum). r .count ≤ 4096) 4096 (sum + n) (λ h. omega arith) (λ h. h)
 
+summed-none : (sum n : ℕ) → summed sum n .number ≢ 0 → summed sum n .count ≡ 0
+summed-none sum n = by-lt (λ (r : Sum). r .number ≢ 0 → r .count ≡ 0) 4096 (sum + n) (λ h q. refl) (λ h q. absurd (q refl))
+
 summed-outcome : (p sum n : ℕ) → (reject (ltb maxItems (sum + n)) 10 p >> ok (sum + n)) ≡ outcome (summed sum n .number) p (summed sum n .count)
 unfolding outcome
 summed-outcome p sum n = go (ltb maxItems (sum + n)) refl
@@ -41,7 +45,7 @@ module _ (start size taken factor sum : ℕ) (small : sum ≤ 4096) where
   -- 8: the id is not described
   pub group-missing : (r : Sum) → r .number ≡ 8 → r .count ≡ 0 → start ≡ 65535 → AddedGroup start size taken factor sum r
   unfolding addGroup
-  group-missing r e z h = record { result = λ p ref x k. go p ref x k; small = omega arith }
+  group-missing r e z h = record { result = λ p ref x k. go p ref x k; no-count = λ q. z; small = omega arith }
     where
       go : (p ref : ℕ) (x : Option Entry) → KeptAs start size x → addGroup p sum (groupOf ref taken factor) x ≡ outcome (r .number) p (r .count)
       go p ref none k = rw e (refused-outcome 8 p (r .count) (λ q. omega arith))
@@ -50,7 +54,7 @@ module _ (start size taken factor sum : ℕ) (small : sum ≤ 4096) where
   -- 9: repetition 0
   pub group-never : (r : Sum) → r .number ≡ 9 → r .count ≡ 0 → (start ≡ 65535 → ⊥) → factor ≡ 0 → AddedGroup start size taken factor sum r
   unfolding addGroup
-  group-never r e z h f = record { result = λ p ref x k. go p ref x k; small = omega arith }
+  group-never r e z h f = record { result = λ p ref x k. go p ref x k; no-count = λ q. z; small = omega arith }
     where
       go : (p ref : ℕ) (x : Option Entry) → KeptAs start size x → addGroup p sum (groupOf ref taken factor) x ≡ outcome (r .number) p (r .count)
       go p ref none k = absurd (h k)
@@ -60,7 +64,7 @@ module _ (start size taken factor sum : ℕ) (small : sum ≤ 4096) where
   added : (n : ℕ) (r : Sum) → (start ≡ 65535 → ⊥) → (factor ≡ 0 → ⊥)
       → ((y : Entry) → Entered start size y → countTaken taken y ≡ some n) → r ≡ summed sum (factor * n) → AddedGroup start size taken factor sum r
   unfolding addGroup
-  added n r h f t e = record { result = λ p ref x k. go p ref x k; small = rw e (summed-small sum (factor * n)) }
+  added n r h f t e = record { result = λ p ref x k. go p ref x k; no-count = rw e (summed-none sum (factor * n)); small = rw e (summed-small sum (factor * n)) }
     where
       go : (p ref : ℕ) (x : Option Entry) → KeptAs start size x → addGroup p sum (groupOf ref taken factor) x ≡ outcome (r .number) p (r .count)
       go p ref none k = absurd (h k)
@@ -76,7 +80,7 @@ module _ (start size taken factor sum : ℕ) (small : sum ≤ 4096) where
   pub group-none : (lower : ℕ) (r : Sum) → r .number ≡ 9 → r .count ≡ 0 → (start ≡ 65535 → ⊥) → (factor ≡ 0 → ⊥) → (taken ≡ 0 → ⊥)
       → lower ≡ size / 65536 → lower ≡ 0 → AddedGroup start size taken factor sum r
   unfolding addGroup
-  group-none lower r e z h f t l w = record { result = λ p ref x k. go p ref x k; small = omega arith }
+  group-none lower r e z h f t l w = record { result = λ p ref x k. go p ref x k; no-count = λ q. z; small = omega arith }
     where
       taking : (k : ℕ) (y : Entry) → (k ≡ 0 → ⊥) → lowerOfEntry y ≡ 0 → Positive y → countTaken k y ≡ none
       taking zero y a b c = absurd (a refl)

@@ -71,6 +71,8 @@ pub record JudgedSDA (t s : List ℕ) (r : Judged) : Type 0 where
       → checkSDA es p t ≡ outcome (r .number) p (described (idOf t) (extentsOf t) es)
   pub count : r .number ≡ 0 → r .count ≡ product (extentsOf t)
   pub layout : r .number ≡ 0 → r .layout ≡ layoutNumber (codeOf t)
+  pub no-count : r .number ≢ 0 → r .count ≡ 0
+  pub no-layout : r .number ≢ 0 → r .layout ≡ 0
   pub length-good : r .number ≡ 0 → goodLengthSDA t ≡ true
   pub good : r .number ≡ 0 → goodSDA t ≡ true
   pub small : r .count ≤ 4096
@@ -78,11 +80,13 @@ pub record JudgedSDA (t s : List ℕ) (r : Judged) : Type 0 where
 -- What adding a group to a row of `sum` items gives, where the tables have `start` and `size` for the id that it refers to.
 pub record AddedGroup (start size taken factor sum : ℕ) (r : Sum) : Type 0 where
   pub result : (p ref : ℕ) (x : Option Entry) → KeptAs start size x → addGroup p sum (groupOf ref taken factor) x ≡ outcome (r .number) p (r .count)
+  pub no-count : r .number ≢ 0 → r .count ≡ 0
   pub small : r .count ≤ 4096
 
 -- What adding the groups gives.
 pub record AddedGroups (gs : List Group) (s z : List ℕ) (sum : ℕ) (r : Sum) : Type 0 where
   pub result : (p : ℕ) (es : List (ℕ × Entry)) → Agrees s z es → addGroups p es sum gs ≡ outcome (r .number) p (r .count)
+  pub no-count : r .number ≢ 0 → r .count ≡ 0
   pub small : r .count ≤ 4096
 
 -- An RLO's or a CPT's bytes are a head and one or more groups.
@@ -93,12 +97,14 @@ pub record GoodRow (t : List ℕ) : Type 0 where
 -- What judging an RLO's or a CPT's bytes gives.
 pub record JudgedRLO (t s z : List ℕ) (r : Sum) : Type 0 where
   pub result : (p : ℕ) (es : List (ℕ × Entry)) → Agrees s z es → checkRLO es p t ≡ outcome (r .number) p (rowAtHand (idOf t) (r .count) es)
+  pub no-count : r .number ≢ 0 → r .count ≡ 0
   pub good : r .number ≡ 0 → GoodRow t
   pub id-given : r .number ≡ 0 → (idOf t ≢ 0) × (idOf t < 256)
   pub small : r .count ≤ 4096
 
 pub record JudgedCPT (t s z : List ℕ) (sum : ℕ) (r : Sum) : Type 0 where
   pub result : (p id : ℕ) (es : List (ℕ × Entry)) → Agrees s z es → checkCPT (rowAtHand id sum es) p t ≡ outcome (r .number) p (rowAtHand id (r .count) es)
+  pub no-count : r .number ≢ 0 → r .count ≡ 0
   pub good : r .number ≡ 0 → GoodRow t
   pub small : r .count ≤ 4096
 

@@ -42,7 +42,7 @@ pub struct Judged {
 }
 
 fn refused(number: u8) -> Judged
-    ensures { λ r. ⌜ (r .number ≡ number) × (r .count ≡ 0) ⌝ }
+    ensures { λ r. ⌜ r ≡ record { number = number; layout = 0; count = 0 } ⌝ }
 {
     Judged {
         number: number,
