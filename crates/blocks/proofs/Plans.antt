@@ -20,8 +20,9 @@ use Rattle.descriptors.proofs.Callers.{for-unfolding}
 use Rattle.walks.specs.declared.Stop.{Stop}
 use Rattle.walks.specs.declared.Found.{Found}
 use Rattle.walks.specs.Finding.{foundOf, itemOf, IsPlan}
-use Rattle.walks.specs.Marks.{markOf, stopOf, Marked, Noted}
-use Rattle.walks.proofs.Callers.{as-many, all-noted, found-inside, found-state}
+use Rattle.walks.specs.Marks.{markOf, stopOf, Marked, listBy}
+use Rattle.walks.proofs.Callers.{as-many, all-noted, good-marks, found-inside, found-state}
+use Rattle.walks.proofs.Writing.{list-by-marks}
 use Rattle.blocks.specs.Answers.{itemsInto, ListedAs, FoundAs}
 
 module _ (d s z e plan : List ℕ) (id : ℕ) (rd : Ready d s z e id (length plan)) where
@@ -44,8 +45,8 @@ module _ (d s z e plan : List ℕ) (id : ℕ) (rd : Ready d s z e id (length pla
           state = found-state plan′ (unfolded d) x k r p h;
         }
 
-    module _ (x plan″ old : List ℕ) (stop : Stop) (f : (fs : List Field) → Planned plan′ fs → Marked stop plan″ (walk fs x)) where
-      marked : Marked stop plan″ (walk (unfolded d) x)
+    module _ (x plan″ old : List ℕ) (stop : Stop) (f : (fs : List Field) → Planned plan′ fs → Marked stop plan″ fs x) where
+      marked : Marked stop plan″ (unfolded d) x
       marked = f (unfolded d) planned
 
       pub stopped-way : (r : Listed) → (stop .number ≡ 0 → ⊥) → r ≡ record { number = stop .number; place = stop .place }
@@ -58,20 +59,21 @@ module _ (d s z e plan : List ℕ) (id : ℕ) (rd : Ready d s z e id (length pla
           go (ok ns) a = absurd (h (rw a))
 
       pub listed-way : (new : List ℕ) (r : Listed) → stop .number ≡ 0 → r ≡ record { number = 0; place = 0 }
-          → ((ns : List Note) → Noted ns → plan″ ≡ map markOf ns → new ≡ itemList (length ns) (length x) ns old)
+          → new ≡ listBy plan″ (length x) old
           → ListedAs (itemsInto (length plan) (unfolded d) x old) old r new
       unfolding itemsInto stopOf
-      listed-way new r h q g = go (walk (unfolded d) x) refl (marked .answered) (marked .noted)
+      listed-way new r h q g = go (walk (unfolded d) x) refl (marked .answered)
         where
           long : length plan′ ≡ length plan
           long = ap length written ∙ length-sets plan 0 (map entryOf (listOf d id))
 
-          go : (w : Result (List Note)) → walk (unfolded d) x ≡ w → stop ≡ stopOf w → ((ns : List Note) → w ≡ ok ns → plan″ ≡ map markOf ns)
+          go : (w : Result (List Note)) → walk (unfolded d) x ≡ w → stop ≡ stopOf w
               → ListedAs (w >>= (λ ns. ok (itemList (length plan) (length x) ns old))) old r new
-          go (refuse n p) e a m =
+          go (refuse n p) e a =
               let z : n ≡ 0 = rw a at h in
               absurd (let y : ⊥ = omega (arith, walk-number (unfolded d) x n p e) in y)
-          go (ok ns) e a m =
+          go (ok ns) e a =
               let n : length ns ≡ length plan = as-many plan′ (unfolded d) x ns planned e ∙ long in
-              let k : new ≡ itemList (length ns) (length x) ns old = g ns (all-noted plan′ (unfolded d) x ns planned e) (m ns refl) in
+              let m : plan″ ≡ map markOf ns = marked .marks ∙ good-marks (unfolded d) x ns e in
+              let k : new ≡ itemList (length ns) (length x) ns old = g ∙ list-by-marks plan″ (length x) old ns (all-noted plan′ (unfolded d) x ns planned e) m in
               record { answered = q; entries = rw n at k }

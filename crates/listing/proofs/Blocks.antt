@@ -21,7 +21,8 @@ use Rattle.walks.specs.declared.Stop.{Stop}
 use Rattle.descriptors.proofs.Callers.{for-unfolding, refused-by}
 use Rattle.fdoca.proofs.Cover.{Standing, standing}
 use Rattle.walks.specs.Marks.{markOf, stopOf, Marked, Noted}
-use Rattle.walks.proofs.Callers.{all-noted}
+use Rattle.walks.specs.Finding.{IsPlan}
+use Rattle.walks.proofs.Callers.{all-noted, good-marks}
 use Rattle.listing.specs.Put.{Put, Told}
 use Rattle.listing.specs.Lines.{firstLine, entryLines, StartsIn}
 use Rattle.listing.proofs.Putting.{both}
@@ -34,8 +35,11 @@ module _ (d s z e plan : List ℕ) (id : ℕ) (ready : Ready d s z e id (length 
     plans-it : Planned plan′ (unfolded d)
     plans-it = for-unfolding d s z e plan id ready plan′ written
 
-    module _ (x plan″ : List ℕ) (stop : Stop) (marks : (fs : List Field) → Planned plan′ fs → Marked stop plan″ (walk fs x)) where
-      marked : Marked stop plan″ (walk (unfolded d) x)
+    pub is-plan : IsPlan plan′
+    is-plan = record { fields = unfolded d; planned = plans-it }
+
+    module _ (x plan″ : List ℕ) (stop : Stop) (marks : (fs : List Field) → Planned plan′ fs → Marked stop plan″ fs x) where
+      marked : Marked stop plan″ (unfolded d) x
       marked = marks (unfolded d) plans-it
 
       pub refused-text : (t t′ : List ℕ) (r : ℕ) → (stop .number ≡ 0 → ⊥) → Put t t′ 0 r (refusedLine (stop .number) (stop .place)) → r ≤ 30 → Told t t′ r (length x) (walk (unfolded d) x)
@@ -66,7 +70,7 @@ module _ (d s z e plan : List ℕ) (id : ℕ) (ready : Ready d s z e id (length 
               record {
                 notes = ns;
                 walked = e;
-                marks-are = marked .noted ns e;
+                marks-are = marked .marks ∙ good-marks (unfolded d) x ns e;
                 noted = all-noted plan′ (unfolded d) x ns plans-it e;
                 stand = standing (unfolded d) x ns e;
               }

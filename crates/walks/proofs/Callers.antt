@@ -5,16 +5,17 @@ use mathlib.Core.Path.{_≡_, refl, sym, ap, _∙_}
 use mathlib.Core.List.{List, [], _∷_, map}
 use mathlib.Core.Option.{Option, none, some}
 use native.Mathlib.Omega.{arith}
-use lib.ListN.{length, getElem?, length-map}
+use lib.Dec.{ltb}
+use lib.ListN.{length, drop, getElem?, length-map}
 use Rattle.fdoca.specs.Basics.{Result, refuse, ok, the}
-use Rattle.fdoca.specs.Item.{Field}
-use Rattle.fdoca.specs.Walk.{Note, itemLength, walk}
+use Rattle.fdoca.specs.Item.{Field, measure}
+use Rattle.fdoca.specs.Walk.{Note, itemLength, noteOf, cutFrom, walk}
 use Rattle.fdoca.specs.Calls.{stateOf}
-use Rattle.fdoca.proofs.Results.{IfOk, none-owed, holds, bind-all, itself}
+use Rattle.fdoca.proofs.Results.{IfOk, none-owed, holds, bind-all, reject-all, itself, ok-of}
 use Rattle.fdoca.proofs.Cover.{sum, positions, lengths, walk-covers}
 use Rattle.plans.specs.Plan.{entryOf, Proper, Planned, empty, entry}
 use Rattle.walks.specs.declared.Found.{Found}
-use Rattle.walks.specs.Marks.{Noted, nothing, item}
+use Rattle.walks.specs.Marks.{markOf, marksFrom, Noted, nothing, item}
 use Rattle.walks.specs.Finding.{foundOf, itemOf, stateFound}
 use Rattle.walks.proofs.Parts.{code-part}
 
@@ -33,6 +34,22 @@ module _ (es : List ℕ) (fs : List Field) (s : List ℕ) (ns : List Note) (p : 
 
   pub all-noted : Noted ns
   all-noted = proper-notes es ns (rw (walk-covers fs s ns e .fields) p)
+
+-- the plan that the walk over a good block leaves
+cut-marks : (p : ℕ) (fs : List Field) (s : List ℕ) → IfOk (λ c. marksFrom p fs s ≡ map markOf (c .notes)) (cutFrom p fs s)
+unfolding marksFrom cutFrom
+cut-marks p [] s = holds refl
+cut-marks p (f ∷ fs) s =
+    bind-all (noteOf f p (measure f s)) (itself (noteOf f p (measure f s)))
+    (λ n e. bind-all (cutFrom (p + itemLength n) fs (drop (itemLength n) s)) (cut-marks (p + itemLength n) fs (drop (itemLength n) s))
+    (λ c k. holds (rw e (ap (λ l. markOf n ∷ l) k))))
+
+walk-marks : (fs : List Field) (s : List ℕ) → IfOk (λ ns. marksFrom 0 fs s ≡ map markOf ns) (walk fs s)
+unfolding walk
+walk-marks fs s = bind-all (cutFrom 0 fs s) (cut-marks 0 fs s) (λ c k. reject-all (ltb 0 (length (c .rest))) 16 (c .end) (λ h. holds k))
+
+pub good-marks : (fs : List Field) (s : List ℕ) (ns : List Note) → walk fs s ≡ ok ns → marksFrom 0 fs s ≡ map markOf ns
+good-marks fs s ns e = ok-of (rw e at (walk-marks fs s))
 
 -- an item that is found lies within the data, and its field is proper
 record Sound (s : List ℕ) (n : Note) : Type 0 where

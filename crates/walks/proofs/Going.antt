@@ -2,7 +2,7 @@
 -- Assumes nothing.
 use Prim.Native.Nat.{ℕ, _+_, _-_, _*_, _/_, _%_, _<_, _≤_}
 use mathlib.Core.Path.{_≡_, refl, sym, ap, _∙_}
-use mathlib.Core.List.{List, [], _∷_, _++_, append-nil}
+use mathlib.Core.List.{List, [], _∷_, _++_, map, map-append, append-nil}
 use native.Mathlib.Nat.{le-of-eq}
 use native.Mathlib.Omega.{arith}
 use lib.ListN.{length, take, drop, length-drop}
@@ -18,6 +18,7 @@ use Rattle.items.specs.Answer.{answer}
 use Rattle.items.proofs.Inside.{Numbered, numbered-item, is-item, is-refused, inside-at}
 use Rattle.plans.specs.Plan.{entryOf, Proper, Planned, empty, entry}
 use Rattle.walks.specs.Entry.{measureEntry}
+use Rattle.walks.specs.Marks.{markOf, marksFrom}
 use Rattle.walks.proofs.Parts.{entry-measures}
 
 -- an item's length
@@ -37,13 +38,14 @@ pub record Going (fs : List Field) (s es : List ℕ) (p : ℕ) (ns : List Note) 
   pub ahead : List Field
   pub planned : Planned es ahead
   pub whole : cutFrom 0 fs s ≡ (cutFrom p ahead (drop p s) >>= λ c. ok (behind ns c))
+  pub marked : marksFrom 0 fs s ≡ map markOf ns ++ marksFrom p ahead (drop p s)
 
 none-behind : (r : Result Cut) → r ≡ (r >>= λ c. ok (behind [] c))
 none-behind (refuse n p) = refl
 none-behind (ok c) = refl
 
 pub set-out : (fs : List Field) (s es : List ℕ) → Planned es fs → Going fs s es 0 []
-set-out fs s es h = record { ahead = fs; planned = h; whole = none-behind (cutFrom 0 fs s) }
+set-out fs s es h = record { ahead = fs; planned = h; whole = none-behind (cutFrom 0 fs s); marked = refl }
 
 -- the field of the next entry
 record Next (e : ℕ) (es : List ℕ) (fs : List Field) : Type 0 where
@@ -60,12 +62,16 @@ next (entry {f} {es} {fs} h p) = record { field = f; later = fs; entry-is = refl
 none-left : {fs : List Field} → Planned [] fs → fs ≡ []
 none-left empty = refl
 
+entries-are : {es : List ℕ} {fs : List Field} → Planned es fs → es ≡ map entryOf fs
+entries-are empty = refl
+entries-are (entry h p) = rw (← entries-are p)
+
 entry-is-measure : (f : Field) (e : ℕ) (s : List ℕ) → e ≡ entryOf f → Proper f → measureEntry e s ≡ measure f s
 entry-is-measure f e s q h =
     let z : e ≡ entryOf f + 281474976710656 * 0 = omega arith in
     rw z (entry-measures f 0 s h)
 
--- one step of the definition
+-- one step of the definitions
 cut-refused : (p n : ℕ) (f : Field) (fs : List Field) (s : List ℕ) → measure f s ≡ refused n → cutFrom p (f ∷ fs) s ≡ refuse n p
 unfolding cutFrom noteOf
 cut-refused p n f fs s e = rw e
@@ -74,6 +80,15 @@ cut-item : (p : ℕ) (m : Measured) (f : Field) (fs : List Field) (s : List ℕ)
     → cutFrom p (f ∷ fs) s ≡ (cutFrom (p + long m) fs (drop (long m) s) >>= λ c. ok (with (noteAt f p m) c))
 unfolding cutFrom noteOf
 cut-item p m f fs s e = rw e
+
+marks-refused : (p n : ℕ) (f : Field) (fs : List Field) (s : List ℕ) → measure f s ≡ refused n → marksFrom p (f ∷ fs) s ≡ map entryOf (f ∷ fs)
+unfolding marksFrom noteOf
+marks-refused p n f fs s e = rw e
+
+marks-item : (p : ℕ) (m : Measured) (f : Field) (fs : List Field) (s : List ℕ) → measure f s ≡ item (m .null) (m .prefix) (m .value) (m .padding)
+    → marksFrom p (f ∷ fs) s ≡ markOf (noteAt f p m) ∷ marksFrom (p + long m) fs (drop (long m) s)
+unfolding marksFrom noteOf
+marks-item p m f fs s e = rw e
 
 with-behind : (ns : List Note) (n : Note) (r : Result Cut) → ((r >>= λ c. ok (with n c)) >>= λ c. ok (behind ns c)) ≡ (r >>= λ c. ok (behind (ns ++ n ∷ []) c))
 with-behind ns n (refuse k q) = refl
@@ -85,16 +100,26 @@ unfolding measureEntry
 entry-numbered e s = numbered-item _ _ _ _ s
 
 module _ {fs : List Field} {s es : List ℕ} {e p : ℕ} {ns : List Note} (m : Measured) (g : Going fs s (e ∷ es) p ns) (h : m ≡ answer (measureEntry e (drop p s))) where
-  -- an item refused stops the walk with its number, at its start
+  abbrev x : Next e es (g .ahead)
+  x = next (g .planned)
+
+  refused-there : (m .number ≡ 0 → ⊥) → measure (x .field) (drop p s) ≡ refused (m .number)
+  refused-there z = sym (entry-is-measure (x .field) e (drop p s) (x .entry-is) (x .proper)) ∙ is-refused m (measureEntry e (drop p s)) h z
+
+  -- an item refused stops the walk with its number, at its start, and its entry and those behind it are as before
   pub stops : (m .number ≡ 0 → ⊥) → walk fs s ≡ refuse (m .number) p
   unfolding walk
   stops z =
-      let x = next (g .planned) in
-      let r : measure (x .field) (drop p s) ≡ refused (m .number) =
-      sym (entry-is-measure (x .field) e (drop p s) (x .entry-is) (x .proper)) ∙ is-refused m (measureEntry e (drop p s)) h z in
       let c : cutFrom p (g .ahead) (drop p s) ≡ refuse (m .number) p =
-      ap (λ l. cutFrom p l (drop p s)) (x .fields-are) ∙ cut-refused p (m .number) (x .field) (x .later) (drop p s) r in
+      ap (λ l. cutFrom p l (drop p s)) (x .fields-are) ∙ cut-refused p (m .number) (x .field) (x .later) (drop p s) (refused-there z) in
       simp (g .whole, c)
+
+  pub stops-marking : (m .number ≡ 0 → ⊥) → marksFrom 0 fs s ≡ map markOf ns ++ e ∷ es
+  stops-marking z =
+      let c : marksFrom p (g .ahead) (drop p s) ≡ e ∷ es =
+      ap (λ l. marksFrom p l (drop p s)) (x .fields-are) ∙ marks-refused p (m .number) (x .field) (x .later) (drop p s) (refused-there z)
+      ∙ sym (entries-are (g .planned) ∙ ap (map entryOf) (x .fields-are)) in
+      g .marked ∙ ap (λ l. map markOf ns ++ l) c
 
   -- an item measured is noted, and the walk goes on behind it
   pub record Noting : Type 0 where
@@ -105,7 +130,8 @@ module _ {fs : List Field} {s es : List ℕ} {e p : ℕ} {ns : List Note} (m : M
 
   pub goes-on : m .number ≡ 0 → Noting
   goes-on z =
-      let x = next (g .planned) in
+      let n : Note = noteAt (x .field) p m in
+      let later : List ℕ = marksFrom (p + long m) (x .later) (drop (p + long m) s) in
       let r : measure (x .field) (drop p s) ≡ item (m .null) (m .prefix) (m .value) (m .padding) =
       sym (entry-is-measure (x .field) e (drop p s) (x .entry-is) (x .proper)) ∙ is-item m (measureEntry e (drop p s)) (entry-numbered e (drop p s)) h z in
       let c : cutFrom p (g .ahead) (drop p s) ≡ (cutFrom (p + long m) (x .later) (drop (long m) (drop p s)) >>= λ c. ok (with (noteAt (x .field) p m) c)) =
@@ -120,6 +146,12 @@ module _ {fs : List Field} {s es : List ℕ} {e p : ℕ} {ns : List Note} (m : M
           whole = g .whole ∙ ap (λ r. r >>= λ c. ok (behind ns c)) c
               ∙ with-behind ns (noteAt (x .field) p m) (cutFrom (p + long m) (x .later) (drop (long m) (drop p s)))
               ∙ ap (λ l. cutFrom (p + long m) (x .later) l >>= λ c. ok (behind (ns ++ noteAt (x .field) p m ∷ []) c)) (drop-drop (long m) p s);
+          marked = g .marked
+              ∙ ap (λ l. map markOf ns ++ l)
+              (ap (λ l. marksFrom p l (drop p s)) (x .fields-are) ∙ marks-item p m (x .field) (x .later) (drop p s) r
+              ∙ ap (λ l. markOf n ∷ marksFrom (p + long m) (x .later) l) (drop-drop (long m) p s))
+              ∙ sym (append-snoc (map markOf ns) (markOf n) later)
+              ∙ ap (λ l. l ++ later) (sym (map-append markOf ns (n ∷ [])));
         };
       }
 
@@ -129,6 +161,11 @@ module _ {fs : List Field} {s : List ℕ} {p : ℕ} {ns : List Note} (g : Going 
   all-cut =
       g .whole ∙ ap (λ l. cutFrom p l (drop p s) >>= λ c. ok (behind ns c)) (none-left (g .planned))
       ∙ ap (λ l. ok (record { notes = l; end = p; rest = drop p s })) (append-nil ns)
+
+  pub all-marked : marksFrom 0 fs s ≡ map markOf ns
+  unfolding marksFrom
+  all-marked =
+      g .marked ∙ ap (λ l. map markOf ns ++ marksFrom p l (drop p s)) (none-left (g .planned)) ∙ append-nil (map markOf ns)
 
   -- bytes left stop the walk with 16, at the first of them
   pub has-surplus : p < length s → walk fs s ≡ refuse 16 p

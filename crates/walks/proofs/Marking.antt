@@ -7,7 +7,7 @@ use native.Mathlib.Numerals.{add-one}
 use native.Mathlib.Omega.{arith}
 use lib.ListN.{length, getD, set, drop, length-append, length-map, drop-of-length-le}
 use lib.Seq.{drop-cons, append-snoc, set-at, getD-at}
-use Rattle.fdoca.specs.Basics.{Result, refuse, ok}
+use Rattle.fdoca.specs.Basics.{refuse, ok}
 use Rattle.fdoca.specs.Item.{Field}
 use Rattle.fdoca.specs.Walk.{Note, walk}
 use Rattle.items.specs.declared.Measured.{Measured}
@@ -15,10 +15,10 @@ use Rattle.items.specs.Answer.{answer}
 use Rattle.plans.specs.Plan.{Planned}
 use Rattle.walks.specs.declared.Stop.{Stop}
 use Rattle.walks.specs.Entry.{measureEntry, Stepped}
-use Rattle.walks.specs.Marks.{stopOf, markOf, Marked}
+use Rattle.walks.specs.Marks.{stopOf, markOf, marksFrom, Marked}
 use Rattle.walks.proofs.Parts.{entry-part}
 use Rattle.walks.proofs.Steps.{stopped-number, stopped-some, stepped-none, stepped-long}
-use Rattle.walks.proofs.Going.{Going, set-out, long, noteAt, stops, goes-on, has-surplus, has-ended}
+use Rattle.walks.proofs.Going.{Going, set-out, long, noteAt, stops, stops-marking, goes-on, all-marked, has-surplus, has-ended}
 
 -- es was the plan, now it is es′; k entries are marked, and the walk goes on at p
 pub record MarkingFor (es s es′ : List ℕ) (p k : ℕ) (fs : List Field) : Type 0 where
@@ -47,10 +47,10 @@ module _ {es s es′ : List ℕ} {p k : ℕ} {fs : List Field} (w : MarkingFor e
   at-entry : Going fs s (getD es k 0 ∷ drop (suc k) es) p (w .notes)
   at-entry = rw (drop-cons es k 0 i) at (w .going)
 
--- a walk that stops leaves a plan of which nothing is said
-stopped : (r : Stop) (n p : ℕ) (es : List ℕ) (w : Result (List Note)) → w ≡ refuse n p → r ≡ record { number = n; place = p } → Marked r es w
+stopped : (r : Stop) (n p : ℕ) (es : List ℕ) (fs : List Field) (s : List ℕ) → walk fs s ≡ refuse n p → es ≡ marksFrom 0 fs s
+    → r ≡ record { number = n; place = p } → Marked r es fs s
 unfolding stopOf
-stopped r n p es w e q = record { answered = rw e q; noted = λ ns y. absurd (let z : _≡_ {A = ℕ} 0 1 = cc in let o : ⊥ = omega arith in o) }
+stopped r n p es fs s e k q = record { answered = rw e q; marks = k }
 
 module _ (es s es′ : List ℕ) (p k step : ℕ) (i : k < length es′) (l : length es′ ≡ length es) (w : Marking es s es′ p k) (small : length s ≤ 32768)
     (t : Stepped (getD es′ k 0) s p step) where
@@ -85,9 +85,11 @@ module _ (es s es′ : List ℕ) (p k step : ℕ) (i : k < length es′) (l : le
               ∙ ap (λ l. l ++ drop (suc k) es) (sym (map-append markOf (now .notes) (x ∷ [])));
         }
 
-    pub mark-stop : (r : Stop) → 65536 ≤ step → r ≡ record { number = step - 65536; place = p } → Marked r es′ (walk fs s)
+    pub mark-stop : (r : Stop) → 65536 ≤ step → r ≡ record { number = step - 65536; place = p } → Marked r es′ fs s
     mark-stop r o q =
-        stopped r (m .number) p es′ (walk fs s) (stops m (at-entry now inside) answer-is (stopped-some (getD es′ k 0) s p step small t o))
+        let z : m .number ≡ 0 → ⊥ = stopped-some (getD es′ k 0) s p step small t o in
+        stopped r (m .number) p es′ fs s (stops m (at-entry now inside) answer-is z)
+        (apart now inside ∙ sym (stops-marking m (at-entry now inside) answer-is z))
         (q ∙ rw (stopped-number (getD es′ k 0) s p step small t o))
 
   pub mark-more : step < 65536 → Marking es s (set es′ k (getD es′ k 0 % 281474976710656 + p * 281474976710656)) (p + step) (k + 1)
@@ -102,13 +104,16 @@ module _ (es s es′ : List ℕ) (p k : ℕ) (i : length es′ ≤ k) (l : lengt
   through : Going fs s [] p (w .each fs f .notes)
   through = rw none-left at (w .each fs f .going)
 
-  pub mark-surplus : p < length s → r ≡ record { number = 16; place = p } → Marked r es′ (walk fs s)
-  mark-surplus h q = stopped r 16 p es′ (walk fs s) (has-surplus through h) q
+  marked-through : es′ ≡ marksFrom 0 fs s
+  marked-through =
+      w .each fs f .plan-is ∙ ap (λ l. map markOf (w .each fs f .notes) ++ l) none-left ∙ append-nil (map markOf (w .each fs f .notes))
+      ∙ sym (all-marked through)
 
-  pub mark-done : length s ≤ p → r ≡ record { number = 0; place = 0 } → Marked r es′ (walk fs s)
+  pub mark-surplus : p < length s → r ≡ record { number = 16; place = p } → Marked r es′ fs s
+  mark-surplus h q = stopped r 16 p es′ fs s (has-surplus through h) marked-through q
+
+  pub mark-done : length s ≤ p → r ≡ record { number = 0; place = 0 } → Marked r es′ fs s
   unfolding stopOf
   mark-done h q =
       let e : walk fs s ≡ ok (w .each fs f .notes) = has-ended through h in
-      let v : es′ ≡ map markOf (w .each fs f .notes) =
-      w .each fs f .plan-is ∙ ap (λ l. map markOf (w .each fs f .notes) ++ l) none-left ∙ append-nil (map markOf (w .each fs f .notes)) in
-      record { answered = rw e q; noted = λ ns y. let z : ns ≡ w .each fs f .notes = cc in rw z v }
+      record { answered = rw e q; marks = marked-through }

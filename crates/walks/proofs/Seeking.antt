@@ -25,7 +25,7 @@ use Rattle.walks.specs.Entry.{measureEntry}
 use Rattle.walks.specs.Marks.{stopOf, markOf, Marked}
 use Rattle.walks.specs.Finding.{foundOf, itemOf, IsPlan, MarkIn, IsMark, FoundBy}
 use Rattle.walks.proofs.Parts.{entry-part, mark-part, entry-measures}
-use Rattle.walks.proofs.Callers.{all-noted, item-proper}
+use Rattle.walks.proofs.Callers.{all-noted, good-marks, item-proper}
 
 -- the item of a mark, by the mark's parts
 module _ (s : List ℕ) (e : ℕ) (n : Note) (h : MarkIn s e n) where
@@ -84,7 +84,7 @@ nth (n ∷ ns) zero h = record { note = n; there = refl; marked = refl }
 nth (n ∷ ns) (suc k) h = let r = nth ns k (omega arith) in record { note = r .note; there = r .there; marked = r .marked }
 
 -- the walk over the plan es of the fields fs has stopped, and es′ is the plan that it left
-module _ (es s es′ : List ℕ) (stop : Stop) (k : ℕ) (f : (fs : List Field) → Planned es fs → Marked stop es′ (walk fs s)) where
+module _ (es s es′ : List ℕ) (stop : Stop) (k : ℕ) (f : (fs : List Field) → Planned es fs → Marked stop es′ fs s) where
   module _ (fs : List Field) (p : Planned es fs) where
     pub find-stop : (r : Found) → (stop .number ≡ 0 → ⊥) → r ≡ foundOf (refuse (stop .number) (stop .place)) → r ≡ foundOf (itemOf fs s k)
     unfolding itemOf stopOf
@@ -101,11 +101,11 @@ module _ (es s es′ : List ℕ) (stop : Stop) (k : ℕ) (f : (fs : List Field) 
 
     noted : stop .number ≡ 0 → Noted
     unfolding stopOf
-    noted z = go (walk fs s) refl (f fs p .answered) (f fs p .noted)
+    noted z = go (walk fs s) refl (f fs p .answered)
       where
-        go : (w : Result (List Note)) → walk fs s ≡ w → stop ≡ stopOf w → ((ns : List Note) → w ≡ ok ns → es′ ≡ map markOf ns) → Noted
-        go (refuse n q) e a m = absurd (let y : n ≡ 0 = rw a at z in let o : ⊥ = omega (arith, walk-number fs s n q e) in o)
-        go (ok ns) e a m = record { notes = ns; walked = e; plan-is = m ns refl }
+        go : (w : Result (List Note)) → walk fs s ≡ w → stop ≡ stopOf w → Noted
+        go (refuse n q) e a = absurd (let y : n ≡ 0 = rw a at z in let o : ⊥ = omega (arith, walk-number fs s n q e) in o)
+        go (ok ns) e a = record { notes = ns; walked = e; plan-is = f fs p .marks ∙ good-marks fs s ns e }
 
     long : (z : stop .number ≡ 0) → length es′ ≡ length (noted z .notes)
     long z = ap length (noted z .plan-is) ∙ length-map (noted z .notes) markOf

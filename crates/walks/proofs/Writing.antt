@@ -9,14 +9,8 @@ use lib.ListN.{length, getD, set, take, drop, length-append, length-map, length-
 use lib.Seq.{take-suc, take-all, set-at, length-take-le, take-add, drop-set-lt}
 use Rattle.fdoca.specs.Walk.{Note}
 use Rattle.fdoca.specs.Calls.{itemList}
-use Rattle.walks.specs.Marks.{markOf, Noted, nothing, item}
+use Rattle.walks.specs.Marks.{markOf, startIn, idIn, listBy, Noted, nothing, item}
 use Rattle.walks.proofs.Parts.{id-part, mark-part}
-
-abbrev startIn : ℕ → ℕ
-startIn e = e / 281474976710656
-
-abbrev idIn : ℕ → ℕ
-idIn e = e / 65536 % 256
 
 no-gaps : (x y z : List ℕ) → x ++ [] ++ y ++ [] ++ z ≡ x ++ y ++ z
 no-gaps x y z = ap (λ t. t ++ y ++ [] ++ z) (append-nil x) ∙ ap (λ t. t ++ z) (append-nil (x ++ y))
@@ -106,20 +100,21 @@ headed n size [] h = absurd (let z : ⊥ = omega arith in z)
 headed n size (a ∷ []) h = absurd (let z : ⊥ = omega arith in z)
 headed n size (a ∷ b ∷ old) h = refl
 
-pub write-done : (es : List ℕ) (size : ℕ) (old l : List ℕ) (k : ℕ) (ns : List Note) → 2 + 2 * length es ≤ length old → length es ≤ k
-    → Writing es (set (set old 0 (length es)) 1 size) l k → Noted ns → es ≡ map markOf ns → l ≡ itemList (length ns) size ns old
-write-done es size old l k ns o h w t e =
+pub write-done : (es : List ℕ) (size : ℕ) (old l : List ℕ) (k : ℕ) → 2 + 2 * length es ≤ length old → length es ≤ k
+    → Writing es (set (set old 0 (length es)) 1 size) l k → l ≡ listBy es size old
+unfolding listBy
+write-done es size old l k o h w =
     let g : w .gap ≡ [] = empty (w .gap) (omega (arith, w .gap-long)) in
     let r : w .room ≡ [] = empty (w .room) (omega (arith, w .room-long)) in
-    let n : length es ≡ length ns = ap length e ∙ length-map ns markOf in
-    let a : map startIn es ≡ map (λ i. i .start) ns = ap (map startIn) e ∙ marked-starts t in
-    let b : map idIn es ≡ map (λ i. i .field .id) ns = ap (map idIn) e ∙ marked-ids t in
     let c : take 2 (set (set old 0 (length es)) 1 size) ≡ length es ∷ size ∷ [] = headed (length es) size old (omega arith) in
     let d : drop (2 + 2 * length es) (set (set old 0 (length es)) 1 size) ≡ drop (2 + 2 * length es) old =
     drop-set-lt (2 + 2 * length es) (set old 0 (length es)) 1 size (omega arith) ∙ drop-set-lt (2 + 2 * length es) old 0 (length es) (omega arith) in
-    w .list-is ∙ simp (g, r, take-all k es h, c, d, a, b)
-    (no-gaps (length es ∷ size ∷ map (λ i. i .start) ns) (map (λ i. i .field .id) ns) (drop (2 + 2 * length es) old))
-    ∙ ap (λ m. itemList m size ns old) n
+    w .list-is ∙ simp (g, r, take-all k es h, c, d) (no-gaps (length es ∷ size ∷ map startIn es) (map idIn es) (drop (2 + 2 * length es) old))
+
+-- the list by the marks of a good block is the item list
+pub list-by-marks : (es : List ℕ) (size : ℕ) (old : List ℕ) (ns : List Note) → Noted ns → es ≡ map markOf ns → listBy es size old ≡ itemList (length ns) size ns old
+unfolding listBy
+list-by-marks es size old ns t e = rw (e, length-map, marked-starts t, marked-ids t)
 
 -- two entries written keep the list's length
 pub room-kept : (l es : List ℕ) (i j v w : ℕ) → 2 + 2 * length es ≤ length l → 2 + 2 * length es ≤ length (set (set l i v) j w)

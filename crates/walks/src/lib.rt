@@ -1,16 +1,14 @@
 // The walk over a plan and the data (document 01, "Unfolding and walk").
 ghost use mathlib.Core.Path.{_≡_};
 ghost use Prim.Native.Nat.{_+_, _*_, _/_, _≤_};
-ghost use mathlib.Core.List.{List, map};
+ghost use mathlib.Core.List.{List};
 ghost use lib.ListN.{length, drop};
 ghost use Rattle.fdoca.specs.Basics.{refuse};
 ghost use Rattle.fdoca.specs.Item.{Field};
-ghost use Rattle.fdoca.specs.Walk.{Note, walk};
-ghost use Rattle.fdoca.specs.Calls.{itemList};
 ghost use Rattle.items.specs.Answer.{answer};
 ghost use Rattle.plans.specs.Plan.{Planned};
 ghost use Rattle.walks.specs.Entry.{measureEntry, isPlain, Stepped};
-ghost use Rattle.walks.specs.Marks.{markOf, Marked, Noted};
+ghost use Rattle.walks.specs.Marks.{marksFrom, Marked, listBy};
 ghost use Rattle.walks.specs.Finding.{foundOf, itemOf, IsPlan, IsMark, FoundBy};
 
 // Where the walk stops: number and place of a refusal, zeros if the block is good.
@@ -96,10 +94,10 @@ fn step_at(entry: u64, data: &[u8], at: usize) -> usize
     m.prefix + m.value + m.padding
 }
 
-// The walk over the whole plan and the data. The entry of an item gets its position in the highest 16 bits.
+// The walk over the whole plan and the data. The entry of an item gets its position in the highest 16 bits, up to the item that stops the walk.
 pub fn mark(plan: &mut [u64], data: &[u8]) -> Stop
-    requires { ⌜ length (now «data») ≤ 32768 ⌝ }
-    ensures { λ r. ⌜ ((fs : List Field) → Planned (now (plan .entry)) fs → Marked r (now (plan .exit)) (walk fs (now («data» .entry)))) ⌝ }
+    requires { ⌜ IsPlan (now plan) × (length (now «data») ≤ 32768) ⌝ }
+    ensures { λ r. ⌜ ((fs : List Field) → Planned (now (plan .entry)) fs → Marked r (now (plan .exit)) fs (now («data» .entry))) ⌝ }
 {
     let mut at = 0;
     let mut k = 0;
@@ -126,10 +124,10 @@ fn start_in(entry: u64) -> u32
     (entry / POSITION) as u32
 }
 
-// The item list of a marked plan: the count, the block's length, the positions, the ids.
+// The item list by a marked plan: the count, the block's length, the positions, the ids.
 pub fn write_list(plan: &[u64], size: usize, list: &mut [u32])
     requires { ⌜ (2 + 2 * length (now plan) ≤ length (now list)) × ((length (now plan) ≤ 4096) × (size ≤ 32768)) ⌝ }
-    ensures { λ _. ⌜ ((ns : List Note) → Noted ns → now (plan .entry) ≡ map markOf ns → now (list .exit) ≡ itemList (length ns) size ns (now (list .entry))) ⌝ }
+    ensures { λ _. ⌜ now (list .exit) ≡ listBy (now (plan .entry)) size (now (list .entry)) ⌝ }
 {
     let n = plan.len();
     list[0] = n as u32;
@@ -179,10 +177,11 @@ fn item_of(marked: u64, data: &[u8]) -> Found
     }
 }
 
-// The item of one number, once the walk over the whole plan and the data has found the block good.
+// The item of one number, once the walk over the whole plan and the data has found the block good. The plan is left as `mark` leaves it.
 pub fn find(plan: &mut [u64], data: &[u8], item: u32) -> Found
     requires { ⌜ IsPlan (now plan) × (length (now «data») ≤ 32768) ⌝ }
     ensures { λ r. ⌜ ((fs : List Field) → Planned (now (plan .entry)) fs → r ≡ foundOf (itemOf fs (now («data» .entry)) item)) ⌝ }
+    ensures { λ _. ⌜ ((fs : List Field) → Planned (now (plan .entry)) fs → now (plan .exit) ≡ marksFrom 0 fs (now («data» .entry))) ⌝ }
 {
     let stop = mark(plan, data);
     if stop.number != 0 {

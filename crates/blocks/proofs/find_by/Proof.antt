@@ -14,7 +14,7 @@ same-length : tie.Need-same-length
 same-length c = search needs
 
 returns : tie.Need-returns
-returns c = search (found-way, c .before .before .find .ensures)
+returns c = search (found-way, c .before .before .find .ensures .0)
 
 pub find-by-spec : {M : Type 1} → statement M
 find-by-spec = tie.close (tie.spec write-requires find-requires same-length returns)

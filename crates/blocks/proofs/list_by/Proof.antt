@@ -1,6 +1,6 @@
 use mathlib.Core.Path.{refl}
 use Rattle.descriptors.proofs.Callers.{ready-known, ready-room}
-use Rattle.blocks.proofs.Plans.{stopped-way, listed-way}
+use Rattle.blocks.proofs.Plans.{is-plan, stopped-way, listed-way}
 use borrow.Author.Needs.{needs}
 use Rattle.blocks.proofs.list_by.Statement.{statement}
 use Rattle.blocks.proofs.list_by.Tie as tie
@@ -9,7 +9,7 @@ write-requires : tie.Need-write-requires
 write-requires c κs = search (needs, ready-known, ready-room)
 
 mark-requires : tie.Need-mark-requires
-mark-requires c κs = search needs
+mark-requires c κs = search (needs, is-plan)
 
 same-length : tie.Need-same-length
 same-length c = search needs

@@ -2,7 +2,7 @@ use Rattle.descriptors.proofs.Callers.{ready-known, ready-room}
 -- `listing::write_by` meets its contract.
 -- Assumes nothing.
 use borrow.Author.Needs.{needs}
-use Rattle.listing.proofs.Blocks.{refused-text, starts-inside, items-text}
+use Rattle.listing.proofs.Blocks.{is-plan, refused-text, starts-inside, items-text}
 use Rattle.listing.proofs.write_by.Statement.{statement}
 use Rattle.listing.proofs.write_by.Tie as tie
 
@@ -10,7 +10,7 @@ write-requires : tie.Need-write-requires
 write-requires c κs = search (needs, ready-known, ready-room)
 
 mark-requires : tie.Need-mark-requires
-mark-requires c κs = search needs
+mark-requires c κs = search (needs, is-plan)
 
 put-refusal-requires : tie.Need-put-refusal-requires
 put-refusal-requires c κs = search needs

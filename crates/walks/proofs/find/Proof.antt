@@ -15,7 +15,9 @@ same-length : tie.Need-same-length
 same-length c = search needs
 
 returns : tie.Need-returns
-returns c fs f = find-stop _ _ _ _ _ (c .before .before .before .before .before .mark .ensures) fs f _ (c .before .if1 .taken) (c .refused .ensures)
+returns c =
+    let m = c .before .before .before .before .before .mark .ensures in
+    (λ fs f. find-stop _ _ _ _ _ m fs f _ (c .before .if1 .taken) (c .refused .ensures), λ fs f. m fs f .marks)
 
 refused-requires-2 : tie.Need-refused-requires-2
 refused-requires-2 c κs = search needs
@@ -24,7 +26,7 @@ same-length-2 : tie.Need-same-length-2
 same-length-2 c = search needs
 
 returns-2 : tie.Need-returns-2
-returns-2 c fs f = search (find-none, c .before .before .before .before .before .before .mark .ensures)
+returns-2 c = let m = c .before .before .before .before .before .before .mark .ensures in (λ fs f. search (find-none, m), λ fs f. m fs f .marks)
 
 mul-item-of : tie.Need-mul-item-of
 mul-item-of c = search needs
@@ -39,7 +41,7 @@ same-length-3 : tie.Need-same-length-3
 same-length-3 c = search needs
 
 returns-3 : tie.Need-returns-3
-returns-3 c fs f = search (find-item, c .before .before .before .before .before .before .before .mark .ensures)
+returns-3 c = let m = c .before .before .before .before .before .before .before .mark .ensures in (λ fs f. search (find-item, m), λ fs f. m fs f .marks)
 
 pub find-spec : {M : Type 1} → statement M
 find-spec =

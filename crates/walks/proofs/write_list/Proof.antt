@@ -76,7 +76,7 @@ same-length : tie.Need-same-length Inv-loop μ-loop
 same-length c = search long-kept
 
 returns : tie.Need-returns Inv-loop μ-loop
-returns c ns t e = search write-done
+returns c = search write-done
 
 pub write-list-spec : {M : Type 1} → statement M
 write-list-spec =
