@@ -17,13 +17,14 @@ use Rattle.fdoca.specs.Basics.{Result, refuse, ok, _>>=_, _>>_, reject}
 use Rattle.fdoca.specs.Item.{Field, Measured, refused, item, measure}
 use Rattle.fdoca.specs.Walk.{Note, itemLength, Cut, noteOf, with, cutFrom, walk}
 use Rattle.fdoca.specs.Account.{Parts, Block, done, next}
+use Rattle.fdoca.specs.Cover.{noteOfParts, notesOf}
 use Rattle.fdoca.specs.Reasons.{OfItem, StartsAt, OfItems, surplus, Earlier, here, further, First}
 use Rattle.fdoca.proofs.Table.{is-there}
 use Rattle.fdoca.proofs.Results.{IfOk, holds, bind-all, itself, ok-of, ok-bind, ok-reject}
 use Rattle.fdoca.proofs.Refusals.{refused-iff}
 use Rattle.fdoca.proofs.Cover.{joined, cut-append, walk-covers}
 use Rattle.fdoca.proofs.Stops.{StopsAt, Stopped, at-item, walk-stops}
-use Rattle.fdoca.proofs.Blocks.{noteOfParts, notesOf, CutBlock, cut-block, cut-parts}
+use Rattle.fdoca.proofs.Blocks.{CutBlock, cut-block, cut-parts}
 use Rattle.fdoca.proofs.Fields.{GoodField, AllGood, good-at}
 use Rattle.fdoca.proofs.ItemTests.{Earliest}
 use Rattle.fdoca.proofs.ItemRows.{item-no-reason, item-first-reason}

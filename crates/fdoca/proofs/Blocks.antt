@@ -14,23 +14,13 @@ use Rattle.fdoca.specs.Basics.{Result, ok, _>>=_, _>>_}
 use Rattle.fdoca.specs.Item.{Field, Measured, refused, item, measure}
 use Rattle.fdoca.specs.Account.{Parts, Begins, Block, done, next}
 use Rattle.fdoca.specs.Walk.{Note, itemLength, Cut, noteOf, with, cutFrom, walk}
+use Rattle.fdoca.specs.Cover.{sum, size, startOf, noteOfParts, notesOf}
 use Rattle.fdoca.proofs.Account.{sizes, measure-sound, measure-complete}
 use Rattle.fdoca.proofs.Results.{IfOk, none-owed, holds, bind-all, reject-all, ok-of}
 
 -- an item's bytes, one run after the other, with others behind them
 abbrev pub onto : Parts → List ℕ → List ℕ
 onto x s = x .prefix ++ (x .value ++ (x .padding ++ s))
-
--- the note of an item's parts at a position
-abbrev pub noteOfParts : ℕ → Field → Parts → Note
-noteOfParts p f x =
-    record { start = p; field = f; isNull = x .isNull; prefix = length (x .prefix); value = length (x .value); padding = length (x .padding) }
-
--- what the walk notes of a block's items, laid end to end from p on
-abbrev pub notesOf : ℕ → List Field → List Parts → List Note
-notesOf p [] xs = []
-notesOf p (f ∷ fs) [] = []
-notesOf p (f ∷ fs) (x ∷ xs) = noteOfParts p f x ∷ notesOf (p + itemLength (noteOfParts p f x)) fs xs
 
 pub behind : (x : Parts) (s : List ℕ) → drop (length (x .prefix) + length (x .value) + length (x .padding)) (onto x s) ≡ s
 behind x s =

@@ -15,20 +15,9 @@ use Rattle.fdoca.specs.Basics.{Result, refuse, ok, _>>=_, _>>_}
 use Rattle.fdoca.specs.Item.{Field, Measured, refused, item, measure}
 use Rattle.fdoca.specs.Walk.{Note, itemLength, Cut, noteOf, with, cutFrom, walk}
 use Rattle.fdoca.specs.Between.{Stands}
+use Rattle.fdoca.specs.Cover.{sum, positions, lengths, InItem}
 use Rattle.fdoca.proofs.Within.{Within, within}
 use Rattle.fdoca.proofs.Results.{IfOk, none-owed, holds, bind-all, reject-all, ok-of}
-
-abbrev pub sum : List ℕ → ℕ
-sum [] = 0
-sum (n ∷ ns) = n + sum ns
-
--- the positions of pieces of the given lengths, laid end to end from p on
-abbrev pub positions : ℕ → List ℕ → List ℕ
-positions p [] = []
-positions p (n ∷ ns) = p ∷ positions (p + n) ns
-
-abbrev pub lengths : List Note → List ℕ
-lengths ns = map (λ i. itemLength i) ns
 
 -- the items of the fields fs, cut from s at p
 pub record Covers (p : ℕ) (fs : List Field) (s : List ℕ) (c : Cut) : Type 0 where
@@ -120,12 +109,6 @@ one-piece p (n ∷ ls) i zero (suc k) a b =
 one-piece p (n ∷ ls) i (suc j) zero a b =
     absurd (let z : ⊥ = omega (arith, b .before, a .after, piece-after (p + n) ls j (omega (arith, a .among))) in z)
 one-piece p (n ∷ ls) i (suc j) (suc k) a b = ap suc (one-piece (p + n) ls i j k (earlier-piece a) (earlier-piece b))
-
--- The byte at place i lies in item k.
-pub record InItem (ns : List Note) (i k : ℕ) : Type 0 where
-  pub among : k < length ns
-  pub after : getD (map (λ x. x .start) ns) k 0 ≤ i
-  pub before : i < getD (map (λ x. x .start) ns) k 0 + getD (lengths ns) k 0
 
 module _ (fs : List Field) (s : List ℕ) (ns : List Note) (e : walk fs s ≡ ok ns) where
   -- Each byte of an accepted block lies in an item,

@@ -24,9 +24,10 @@ use Rattle.fdoca.specs.Account.{Parts, Block, done, next}
 use Rattle.fdoca.specs.Calls.{maxData, oversize, itemList, list, itemAt, valueOf, wholeOf, wholeNumber, entriesAfter, stateOf, lent}
 use Rattle.fdoca.proofs.Count.{count-is-length}
 use Rattle.fdoca.proofs.Limits.{at-most-4096}
-use Rattle.fdoca.proofs.Cover.{sum, positions, lengths, walk-covers, InItem, in-an-item, in-one-item}
+use Rattle.fdoca.proofs.Cover.{walk-covers, in-an-item, in-one-item}
+use Rattle.fdoca.specs.Cover.{sum, positions, lengths, InItem, noteOfParts, notesOf}
 use Rattle.fdoca.proofs.Stops.{Stopped, walk-stops}
-use Rattle.fdoca.proofs.Blocks.{noteOfParts, notesOf, behind, walk-complete, walk-sound}
+use Rattle.fdoca.proofs.Blocks.{behind, walk-complete, walk-sound}
 use Rattle.fdoca.proofs.Calls.{items-noted}
 
 -- DEMAND 1

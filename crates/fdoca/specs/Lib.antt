@@ -9,4 +9,5 @@ pub mod Calls
 pub mod Dump
 pub mod Account
 pub mod Reasons
+pub mod Cover
 pub mod Between

@@ -12,7 +12,8 @@ use Rattle.fdoca.specs.Item.{Field, measure}
 use Rattle.fdoca.specs.Walk.{Note, itemLength, noteOf, cutFrom, walk}
 use Rattle.fdoca.specs.Calls.{stateOf}
 use Rattle.fdoca.proofs.Results.{IfOk, none-owed, holds, bind-all, reject-all, itself, ok-of}
-use Rattle.fdoca.proofs.Cover.{sum, positions, lengths, walk-covers}
+use Rattle.fdoca.specs.Cover.{sum, positions, lengths}
+use Rattle.fdoca.proofs.Cover.{walk-covers}
 use Rattle.plans.specs.Plan.{entryOf, Proper, Planned, empty, entry}
 use Rattle.walks.specs.declared.Found.{Found}
 use Rattle.walks.specs.Marks.{markOf, marksFrom, Noted, nothing, item}
