@@ -2,19 +2,21 @@
 -- them; there is one way only to cut them so.
 -- Assumes nothing.
 use mathlib.Core.Path.{_≡_, refl, sym, ap, _∙_}
-use Prim.Native.Nat.{ℕ, _+_}
+use Prim.Native.Nat.{ℕ, zero, suc, _+_}
 use native.Mathlib.Omega.{arith}
 use mathlib.Core.Bool.{Bool}
 use mathlib.Core.List.{List, [], _∷_, _++_, append-assoc, append-nil}
+use mathlib.Core.Option.{some}
 use lib.Dec.{ltb}
-use lib.ListN.{length, take, drop, length-append}
+use lib.ListN.{length, take, drop, getElem?, length-append}
 use lib.Seq.{take-at, drop-at, drop-drop}
 use borrow.Author.Tests.{ltb-false}
-use Rattle.fdoca.specs.Basics.{Result, ok, _>>=_, _>>_}
+use Rattle.fdoca.specs.Basics.{Result, ok}
 use Rattle.fdoca.specs.Item.{Field, Measured, refused, item, measure}
 use Rattle.fdoca.specs.Account.{Parts, Begins, Block, done, next}
 use Rattle.fdoca.specs.Walk.{Note, itemLength, Cut, noteOf, with, cutFrom, walk}
-use Rattle.fdoca.specs.Cover.{sum, size, startOf, noteOfParts, notesOf}
+use Rattle.fdoca.specs.Calls.{valueOf}
+use Rattle.fdoca.specs.Cover.{size, startOf, noteOfParts, notesOf}
 use Rattle.fdoca.proofs.Account.{sizes, measure-sound, measure-complete}
 use Rattle.fdoca.proofs.Results.{IfOk, none-owed, holds, bind-all, reject-all, ok-of}
 
@@ -172,3 +174,21 @@ one-way fs xs ys s t (next {f = f} {fs = gs} {ps = ps} {s = s′} x i b) (next {
     let l : drop (length (x .prefix) + length (x .value) + length (x .padding)) s ≡ t′ = rw (e, h) (behind y t′) in
     let r : ps ≡ qs = one-way gs ps qs s′ t′ b c (sym (behind x s′) ∙ l) in
     cc
+
+-- The note of item k of a block, and its value: it starts behind the parts before it.
+pub note-of-part : (p : ℕ) (fs : List Field) (xs : List Parts) (s whole : List ℕ) → Block fs xs s → drop p whole ≡ s → (k : ℕ) (f : Field) (x : Parts)
+    → getElem? fs k ≡ some f → getElem? xs k ≡ some x
+    → (getElem? (notesOf p fs xs) k ≡ some (noteOfParts (p + startOf xs k) f x)) × (valueOf whole (noteOfParts (p + startOf xs k) f x) ≡ x .value)
+note-of-part p fs xs s whole done h k f x a b = absurd (let z : _≡_ {A = ℕ} 0 1 = cc in let w : ⊥ = omega arith in w)
+note-of-part p fs xs s whole (next {f = g} {fs = fs′} {ps = ps} {s = t} y i bl) h zero f x a b =
+    let eg : g ≡ f = cc in
+    let ey : y ≡ x = cc in
+    let ep : p + 0 ≡ p = omega arith in
+    let v : drop (p + length (y .prefix)) whole ≡ y .value ++ (y .padding ++ t) =
+    sym (drop-drop (length (y .prefix)) p whole) ∙ ap (drop (length (y .prefix))) h ∙ drop-at (y .prefix) (y .value ++ (y .padding ++ t)) (length (y .prefix)) refl in
+    let r : valueOf whole (noteOfParts p g y) ≡ y .value = rw v (take-at (y .value) (y .padding ++ t) (length (y .value)) refl) in
+    rw (ep, ← eg, ← ey) (refl, r)
+note-of-part p fs xs s whole (next {f = g} {fs = fs′} {ps = ps} {s = t} y i bl) h (suc k) f x a b =
+    let h′ : drop (p + size y) whole ≡ t = sym (drop-drop (size y) p whole) ∙ ap (drop (size y)) h ∙ behind y t in
+    let e : p + (size y + startOf ps k) ≡ p + size y + startOf ps k = omega arith in
+    rw e (note-of-part (p + size y) fs′ ps t whole bl h′ k f x a b)

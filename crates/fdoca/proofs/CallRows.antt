@@ -50,7 +50,7 @@ sizes-told d s = reject-told (oversize d s) 1 0 (λ e. over (ltb maxDescriptor (
     within false false x y e (inr h) = omega (arith, ltb-false maxData (length s) y)
 
 -- the items of an accepted descriptor
-items-told : (d s : List ℕ) (n : ℕ) → check d ≡ ok n → Told (OfItems (unfolded d) s) (walk (unfolded d) s)
+pub items-told : (d s : List ℕ) (n : ℕ) → check d ≡ ok n → Told (OfItems (unfolded d) s) (walk (unfolded d) s)
 items-told d s n e = go (walk (unfolded d) s) refl
   where
     go : (w : Result (List Note)) → walk (unfolded d) s ≡ w → Told (OfItems (unfolded d) s) w

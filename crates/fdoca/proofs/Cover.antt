@@ -11,7 +11,7 @@ use lib.Dec.{ltb}
 use lib.ListN.{length, drop, getD, getElem?, length-drop, length-map}
 use lib.Seq.{drop-drop}
 use borrow.Author.Tests.{ltb-true, ltb-false}
-use Rattle.fdoca.specs.Basics.{Result, refuse, ok, _>>=_, _>>_}
+use Rattle.fdoca.specs.Basics.{Result, refuse, ok, _>>=_}
 use Rattle.fdoca.specs.Item.{Field, Measured, refused, item, measure}
 use Rattle.fdoca.specs.Walk.{Note, itemLength, Cut, noteOf, with, cutFrom, walk}
 use Rattle.fdoca.specs.Between.{Stands}

@@ -1,109 +1,119 @@
--- What is owed of the calls, as statements about what they give: a reader who starts here needs nothing else of proofs/.
--- Demand 1: every input is accepted, or refused for the first reason in order, the list then unaltered.
+-- What is owed of the calls, as statements about what they give. All that the statements cite stands in specs/.
+-- Demand 1: every input is refused for the first reason in document 01's table and order, with its number and place, the list then unaltered, or it is
+-- accepted since no reason holds.
 -- Demand 2: a block is accepted exactly when its bytes are the items of the unfolding by the standard's account, and it is read as that account says.
 -- Demand 3: what the walk says is what the list and the states say; the count is the descriptor's alone; the items cover the block.
 -- Assumes nothing.
-use mathlib.Core.Path.{_≡_, refl, sym, ap, _∙_}
-use Prim.Native.Nat.{ℕ, zero, suc, _+_, _*_, _≤_, _<_}
+use mathlib.Core.Path.{_≡_, refl, sym}
+use mathlib.Core.Logic.{_↔_}
+use Prim.Native.Nat.{ℕ, _+_, _*_, _≤_, _<_}
 use native.Mathlib.Omega.{arith}
 use mathlib.Core.Bool.{Bool, true, false, _||_}
-use mathlib.Core.List.{List, [], _∷_, _++_, map}
-use mathlib.Core.Option.{none, some}
+use mathlib.Core.List.{List, [], map}
+use mathlib.Core.Option.{some}
 use lib.Dec.{ltb}
-use lib.IntN.{pos}
+use lib.IntN.{ℤ, pos}
 use lib.ListN.{length, drop, getElem?}
-use lib.Seq.{drop-at, take-at, drop-drop}
-use borrow.Author.Tests.{ltb-true, ltb-false, le-ltb}
+use borrow.Author.Tests.{le-ltb}
 use Rattle.fdoca.specs.Basics.{if_then_else_, Result, refuse, ok, _>>=_, _>>_, reject, the}
-use Rattle.fdoca.specs.Triplet.{Triplet}
 use Rattle.fdoca.specs.Item.{Field}
-use Rattle.fdoca.specs.Walk.{Note, itemLength, walk}
-use Rattle.fdoca.specs.Check.{State, maxDescriptor, checkTriplet, checkTriplets, check}
+use Rattle.fdoca.specs.Walk.{Note, walk}
+use Rattle.fdoca.specs.Check.{maxDescriptor, check}
 use Rattle.fdoca.specs.Unfolding.{unfolded}
-use Rattle.fdoca.specs.Account.{Parts, Block, done, next}
-use Rattle.fdoca.specs.Calls.{maxData, oversize, itemList, list, itemAt, valueOf, wholeOf, wholeNumber, entriesAfter, stateOf, lent}
+use Rattle.fdoca.specs.Account.{Parts, Block}
+use Rattle.fdoca.specs.Calls.{maxData, oversize, itemList, list, itemAt, valueOf, wholeOf, wholeNumber, checked, listed, entriesAfter, stateOf, lent, wholeAnswer}
+use Rattle.fdoca.specs.Reasons.{OfItems, OfDescriptor, OfList, OfState, OfWholeNumber, First, None}
+use Rattle.fdoca.specs.Cover.{sum, positions, lengths, InItem, startOf, notesOf, noteOfParts}
+use Rattle.fdoca.proofs.Table.{there, past-end}
+use Rattle.fdoca.proofs.Results.{ok-bind, ok-reject}
 use Rattle.fdoca.proofs.Count.{count-is-length}
 use Rattle.fdoca.proofs.Limits.{at-most-4096}
 use Rattle.fdoca.proofs.Cover.{walk-covers, in-an-item, in-one-item}
-use Rattle.fdoca.specs.Cover.{sum, positions, lengths, InItem, noteOfParts, notesOf}
-use Rattle.fdoca.proofs.Stops.{Stopped, walk-stops}
-use Rattle.fdoca.proofs.Blocks.{behind, walk-complete, walk-sound}
-use Rattle.fdoca.proofs.Calls.{items-noted}
+use Rattle.fdoca.proofs.Blocks.{walk-complete, walk-sound, note-of-part}
+use Rattle.fdoca.proofs.Calls.{items-noted, list-keeps}
+use Rattle.fdoca.proofs.FirstReasons.{refused-first, accepted-none}
+use Rattle.fdoca.proofs.CheckRows.{check-told}
+use Rattle.fdoca.proofs.CallRows.{items-told, list-told, state-told, whole-told}
+use Rattle.fdoca.proofs.Numbers.{descriptor-number, list-number, state-number, whole-number, numberOf, number-0}
 
 -- DEMAND 1
 
--- The check refuses at the first triplet that gives a reason; the triplets before it give none.
-pub record FirstRefused (st : State) (ts : List Triplet) (n p : ℕ) : Type 0 where
-  pub before : List Triplet
-  pub refused : Triplet
-  pub after : List Triplet
-  pub triplets-are : ts ≡ before ++ (refused ∷ after)
-  pub so-far : State
-  pub accepted : checkTriplets st before ≡ ok so-far
-  pub reason : checkTriplet so-far refused ≡ refuse n p
+-- Each call is refused with m at p exactly where that is the first reason of the table in its order, and is accepted exactly where none holds.
+module _ (d : List ℕ) where
+  pub check-refuses : (m p : ℕ) → (check d ≡ refuse m p) ↔ First (OfDescriptor d) m p
+  check-refuses m p = refused-first (check d) (check-told d) m p
 
-pub first-refused : (st : State) (ts : List Triplet) (n p : ℕ) → checkTriplets st ts ≡ refuse n p → FirstRefused st ts n p
-unfolding checkTriplets
-first-refused st [] n p e = absurd (let z : _≡_ {A = ℕ} 0 1 = cc in let w : ⊥ = omega arith in w)
-first-refused st (t ∷ ts) n p e = go (checkTriplet st t) refl e (λ u q. first-refused u ts n p q)
+  pub check-accepts : ((n : ℕ) × (check d ≡ ok n)) ↔ None (OfDescriptor d)
+  check-accepts = accepted-none (check d) (check-told d)
+
+module _ (d s old : List ℕ) where
+  pub list-refuses : (m p : ℕ) → (list d s old ≡ refuse m p) ↔ First (OfList d s (length old)) m p
+  list-refuses m p = refused-first (list d s old) (list-told d s old) m p
+
+  pub list-accepts : ((new : List ℕ) × (list d s old ≡ ok new)) ↔ None (OfList d s (length old))
+  list-accepts = accepted-none (list d s old) (list-told d s old)
+
+  -- A refused list call leaves the list unaltered; an accepted one leaves its length and the entries beyond those of its n items.
+  pub refusal-unaltered : (m p : ℕ) → list d s old ≡ refuse m p → entriesAfter old (list d s old) ≡ old
+  refusal-unaltered m p e = rw e
+
+  pub beyond-unaltered : (new : List ℕ) → list d s old ≡ ok new
+      → (length new ≡ length old) × (drop (2 + 2 * length (unfolded d)) new ≡ drop (2 + 2 * length (unfolded d)) old)
+  beyond-unaltered new e =
+      let k = list-keeps d s old new e in
+      rw (count-is-length d (k .0) (k .1)) (k .2 .size, k .2 .beyond)
+
+-- State and lending go by the same item.
+module _ (d s : List ℕ) (k : ℕ) where
+  pub state-refuses : (m p : ℕ) → (itemAt d s k ≡ refuse m p) ↔ First (OfState d s k) m p
+  state-refuses m p = refused-first (itemAt d s k) (state-told d s k) m p
+
+  pub state-accepts : ((i : Note) × (itemAt d s k ≡ ok i)) ↔ None (OfState d s k)
+  state-accepts = accepted-none (itemAt d s k) (state-told d s k)
+
+  pub whole-refuses : (m p : ℕ) → (wholeNumber d s k ≡ refuse m p) ↔ First (OfWholeNumber d s k) m p
+  whole-refuses m p = refused-first (wholeNumber d s k) (whole-told d s k) m p
+
+  pub whole-accepts : ((v : Bool × ℤ) × (wholeNumber d s k ≡ ok v)) ↔ None (OfWholeNumber d s k)
+  whole-accepts = accepted-none (wholeNumber d s k) (whole-told d s k)
+
+-- A refusal's number is never 0: an answer has the number 0 exactly where the call accepts.
+pub check-number-0 : (d : List ℕ) → (checked (check d) .number ≡ 0) ↔ None (OfDescriptor d)
+check-number-0 d = rw (same (check d)) (number-0 (check-told d) (λ t m p r. descriptor-number r .0))
   where
-    go : (r : Result State) → checkTriplet st t ≡ r → (r >>= (λ u. checkTriplets u ts)) ≡ refuse n p
-        → ((u : State) → checkTriplets u ts ≡ refuse n p → FirstRefused u ts n p) → FirstRefused st (t ∷ ts) n p
-    go (refuse m q) h k ih =
-        record { before = []; refused = t; after = ts; triplets-are = refl; so-far = st; accepted = refl; reason = h ∙ k }
-    go (ok u) h k ih =
-        let f : FirstRefused u ts n p = ih u k in
-        record {
-          before = t ∷ f .before;
-          refused = f .refused;
-          after = f .after;
-          triplets-are = ap (λ x. t ∷ x) (f .triplets-are);
-          so-far = f .so-far;
-          accepted = rw h (f .accepted);
-          reason = f .reason;
-        }
+    same : (x : Result ℕ) → checked x .number ≡ numberOf x
+    same (refuse m p) = refl
+    same (ok a) = refl
 
--- The outcomes of the list call in document 01's order, each with what holds exactly then.
-pub data ListOutcome (d s old : List ℕ) : Result (List ℕ) → Type 0 where
-  over-limit : oversize d s ≡ true → ListOutcome d s old (refuse 1 0)
-  bad-descriptor : {m p : ℕ} → oversize d s ≡ false → check d ≡ refuse m p → ListOutcome d s old (refuse m p)
-  small-list : {n : ℕ} → oversize d s ≡ false → check d ≡ ok n → length old < 2 + 2 * n → ListOutcome d s old (refuse 12 0)
-  bad-block : {n m p : ℕ} → oversize d s ≡ false → check d ≡ ok n → 2 + 2 * n ≤ length old → Stopped (unfolded d) s m p → ListOutcome d s old (refuse m p)
-  accepted : {n : ℕ} {ns : List Note} → oversize d s ≡ false → check d ≡ ok n → 2 + 2 * n ≤ length old → walk (unfolded d) s ≡ ok ns
-      → ListOutcome d s old (ok (itemList n (length s) ns old))
-
-pub list-outcome : (d s old : List ℕ) → ListOutcome d s old (list d s old)
-unfolding list
-list-outcome d s old = sized (oversize d s) refl
+pub list-number-0 : (d s old : List ℕ) → (listed (list d s old) .number ≡ 0) ↔ None (OfList d s (length old))
+list-number-0 d s old = rw (same (list d s old)) (number-0 (list-told d s old) (λ t m p r. list-number r))
   where
-    walked : (n : ℕ) (w : Result (List Note)) → oversize d s ≡ false → check d ≡ ok n → 2 + 2 * n ≤ length old → walk (unfolded d) s ≡ w
-        → ListOutcome d s old (w >>= (λ ns. ok (itemList n (length s) ns old)))
-    walked n (refuse m p) o c l e = bad-block o c l (walk-stops (unfolded d) s m p .0 e)
-    walked n (ok ns) o c l e = accepted o c l e
+    same : (x : Result (List ℕ)) → listed x .number ≡ numberOf x
+    same (refuse m p) = refl
+    same (ok a) = refl
 
-    room : (n : ℕ) (b : Bool) → oversize d s ≡ false → check d ≡ ok n → ltb (length old) (2 + 2 * n) ≡ b
-        → ListOutcome d s old (reject b 12 0 >> (walk (unfolded d) s >>= (λ ns. ok (itemList n (length s) ns old))))
-    room n true o c e = small-list o c (ltb-true (length old) (2 + 2 * n) e)
-    room n false o c e = walked n (walk (unfolded d) s) o c (ltb-false (length old) (2 + 2 * n) e) refl
+pub state-number-0 : (d s : List ℕ) (k : ℕ) → (stateOf (itemAt d s k) .number ≡ 0) ↔ None (OfState d s k)
+state-number-0 d s k = rw (same (itemAt d s k)) (number-0 (state-told d s k) (λ t m p r. state-number r))
+  where
+    same : (x : Result Note) → stateOf x .number ≡ numberOf x
+    same (refuse m p) = refl
+    same (ok a) = refl
 
-    examined : (r : Result ℕ) → oversize d s ≡ false → check d ≡ r
-        → ListOutcome d s old (r >>= (λ n. reject (ltb (length old) (2 + 2 * n)) 12 0 >> (walk (unfolded d) s >>= (λ ns. ok (itemList n (length s) ns old)))))
-    examined (refuse m p) o e = bad-descriptor o e
-    examined (ok n) o e = room n (ltb (length old) (2 + 2 * n)) o e refl
-
-    sized : (b : Bool) → oversize d s ≡ b
-        → ListOutcome d s old (reject b 1 0 >> (check d >>= (λ n. reject (ltb (length old) (2 + 2 * n)) 12 0 >> (walk (unfolded d) s >>= (λ ns. ok (itemList n (length s) ns old))))))
-    sized true e = over-limit e
-    sized false e = examined (check d) e refl
-
--- A refused list call leaves the list unaltered.
-pub refusal-unaltered : (d s old : List ℕ) (n p : ℕ) → list d s old ≡ refuse n p → entriesAfter old (list d s old) ≡ old
-refusal-unaltered d s old n p e = rw e
+pub whole-number-0 : (d s : List ℕ) (k : ℕ) → (wholeAnswer (wholeNumber d s k) .number ≡ 0) ↔ None (OfWholeNumber d s k)
+whole-number-0 d s k = rw (same (wholeNumber d s k)) (number-0 (whole-told d s k) (λ t m p r. whole-number r))
+  where
+    same : (x : Result (Bool × ℤ)) → wholeAnswer x .number ≡ numberOf x
+    same (refuse m p) = refl
+    same (ok a) = refl
 
 -- DEMAND 3
 
--- An accepted descriptor, data within its limit, and a list that is large enough.
-module _ (d s old : List ℕ) (n : ℕ) (accepts : check d ≡ ok n) (few : length s ≤ 32768) (room : 2 + 2 * n ≤ length old) where
+-- The count is the unfolding's length, at most 4,096: the data plays no part in it.
+pub count-of-descriptor : (d : List ℕ) (n : ℕ) → check d ≡ ok n → (n ≡ length (unfolded d)) × (n ≤ 4096)
+count-of-descriptor d n accepts = (sym (count-is-length d n accepts), at-most-4096 d n accepts)
+
+-- An accepted descriptor, and data within its limit.
+module _ (d s : List ℕ) (n : ℕ) (accepts : check d ≡ ok n) (few : length s ≤ 32768) where
   no-oversize : oversize d s ≡ false
   unfolding check
   no-oversize = go (ltb maxDescriptor (length d)) refl
@@ -114,38 +124,49 @@ module _ (d s old : List ℕ) (n : ℕ) (accepts : check d ≡ ok n) (few : leng
           absurd (let z : _≡_ {A = ℕ} 0 1 = cc in let w : ⊥ = omega arith in w)
       go false e = le-ltb 32768 (length s) few
 
-  -- The count is the unfolding's length, at most 4,096: the data plays no part in it.
-  pub count-of-descriptor : (n ≡ length (unfolded d)) × (n ≤ 4096)
-  count-of-descriptor = (sym (count-is-length d n accepts), at-most-4096 d n accepts)
-
-  list-walks : list d s old ≡ (walk (unfolded d) s >>= (λ ns. ok (itemList n (length s) ns old)))
+  list-walks : (old : List ℕ) → 2 + 2 * n ≤ length old → list d s old ≡ (walk (unfolded d) s >>= (λ ns. ok (itemList n (length s) ns old)))
   unfolding list
-  list-walks = rw (no-oversize, accepts, le-ltb (length old) (2 + 2 * n) room)
+  list-walks old room = rw (no-oversize, accepts, le-ltb (length old) (2 + 2 * n) room)
 
   item-walks : (k : ℕ) → itemAt d s k ≡ (walk (unfolded d) s >>= (λ ns. the (getElem? ns k) 17 0))
   unfolding itemAt
   item-walks k = rw (no-oversize, accepts)
 
-  -- Where the walk stops, the list call and the state of any item say so, and the list is as before.
-  pub list-stops : (m p : ℕ) → walk (unfolded d) s ≡ refuse m p → (list d s old ≡ refuse m p) × (entriesAfter old (list d s old) ≡ old)
-  list-stops m p e = (rw (list-walks, e), rw (list-walks, e))
+  -- The walk stops exactly at the first item that the data cuts short or spoils, or at bytes left over; else it takes all items.
+  pub walk-stops : (m p : ℕ) → (walk (unfolded d) s ≡ refuse m p) ↔ First (OfItems (unfolded d) s) m p
+  walk-stops m p = refused-first (walk (unfolded d) s) (items-told d s n accepts) m p
 
-  pub states-stop : (m p k : ℕ) → walk (unfolded d) s ≡ refuse m p
-      → stateOf (itemAt d s k) ≡ record { number = m; place = p; null = false; code = 0; length = 0 }
-  states-stop m p k e = rw (item-walks k, e)
+  pub walk-ends : ((ns : List Note) × (walk (unfolded d) s ≡ ok ns)) ↔ None (OfItems (unfolded d) s)
+  walk-ends = accepted-none (walk (unfolded d) s) (items-told d s n accepts)
+
+  -- Where the walk stops, the list call with room enough and the state of any item say so, the list is as before, and no part is lent.
+  module _ (m p : ℕ) (e : walk (unfolded d) s ≡ refuse m p) where
+    pub list-stops : (old : List ℕ) → 2 + 2 * n ≤ length old → (list d s old ≡ refuse m p) × (entriesAfter old (list d s old) ≡ old)
+    list-stops old room = (rw (list-walks old room, e), rw (list-walks old room, e))
+
+    pub states-stop : (k : ℕ) → (stateOf (itemAt d s k) ≡ record { number = m; place = p; null = false; code = 0; length = 0 }) × (lent s (itemAt d s k) ≡ [])
+    states-stop k = (rw (item-walks k, e), rw (item-walks k, e))
 
   module _ (ns : List Note) (e : walk (unfolded d) s ≡ ok ns) where
-    -- Where it does not, the list holds the count, the block's length, the positions and the ids,
-    pub list-holds : entriesAfter old (list d s old) ≡ itemList n (length s) ns old
-    list-holds = rw (list-walks, e)
+    -- Where it does not, that list holds the count, the block's length, the positions and the ids,
+    pub list-holds : (old : List ℕ) → 2 + 2 * n ≤ length old → entriesAfter old (list d s old) ≡ itemList n (length s) ns old
+    list-holds old room = rw (list-walks old room, e)
 
-    -- and the state of item k is what was noted of field k; from n on there is no such item.
-    pub state-holds : (k : ℕ) (i : Note) → getElem? ns k ≡ some i
-        → stateOf (itemAt d s k) ≡ record { number = 0; place = 0; null = i .isNull; code = i .field .code; length = i .value }
-    state-holds k i q = rw (item-walks k, e, q)
+    -- the state of item k below n is what was noted for field k, and its part is lent,
+    pub state-holds : (k : ℕ) → k < n
+        → (i : Note) × (getElem? ns k ≡ some i)
+        × (stateOf (itemAt d s k) ≡ record { number = 0; place = 0; null = i .isNull; code = i .field .code; length = i .value })
+        × (lent s (itemAt d s k) ≡ valueOf s i)
+    state-holds k h =
+        let q = there ns k (omega (arith, items-noted d s n ns accepts e)) in
+        (q .0, q .1, rw (item-walks k, e, q .1), rw (item-walks k, e, q .1))
 
-    pub no-more-states : (k : ℕ) → getElem? ns k ≡ none → stateOf (itemAt d s k) ≡ record { number = 17; place = 0; null = false; code = 0; length = 0 }
-    no-more-states k q = rw (item-walks k, e, q)
+    -- and from n on there is no such item.
+    pub no-more-states : (k : ℕ) → n ≤ k
+        → (stateOf (itemAt d s k) ≡ record { number = 17; place = 0; null = false; code = 0; length = 0 }) × (lent s (itemAt d s k) ≡ [])
+    no-more-states k h =
+        let q = past-end ns k (omega (arith, items-noted d s n ns accepts e)) in
+        (rw (item-walks k, e, q), rw (item-walks k, e, q))
 
     -- There are n items, those of the unfolding in order, laid end to end over the whole block;
     pub items-of-unfolding : (length ns ≡ n) × (map (λ i. i .field) ns ≡ unfolded d)
@@ -163,45 +184,32 @@ module _ (d s old : List ℕ) (n : ℕ) (accepts : check d ≡ ok n) (few : leng
 
 -- DEMAND 2
 
--- the parts of a block's items, where its notes stand
-note-of-part : (p : ℕ) (fs : List Field) (xs : List Parts) (s whole : List ℕ) → Block fs xs s → drop p whole ≡ s → (k : ℕ) (f : Field) (x : Parts)
-    → getElem? fs k ≡ some f → getElem? xs k ≡ some x
-    → (q : ℕ) × (getElem? (notesOf p fs xs) k ≡ some (noteOfParts q f x)) × (valueOf whole (noteOfParts q f x) ≡ x .value)
-note-of-part p fs xs s whole done h k f x a b = absurd (let z : _≡_ {A = ℕ} 0 1 = cc in let w : ⊥ = omega arith in w)
-note-of-part p fs xs s whole (next {f = g} {fs = fs′} {ps = ps} {s = t} y i bl) h zero f x a b =
-    let eg : g ≡ f = cc in
-    let ey : y ≡ x = cc in
-    let v : drop (p + length (y .prefix)) whole ≡ y .value ++ (y .padding ++ t) =
-    sym (drop-drop (length (y .prefix)) p whole) ∙ ap (drop (length (y .prefix))) h ∙ drop-at (y .prefix) (y .value ++ (y .padding ++ t)) (length (y .prefix)) refl in
-    let r : valueOf whole (noteOfParts p g y) ≡ y .value = rw v (take-at (y .value) (y .padding ++ t) (length (y .value)) refl) in
-    rw (← eg, ← ey) (p, refl, r)
-note-of-part p fs xs s whole (next {f = g} {fs = fs′} {ps = ps} {s = t} y i bl) h (suc k) f x a b =
-    let p′ : ℕ = p + itemLength (noteOfParts p g y) in
-    let h′ : drop p′ whole ≡ t = sym (drop-drop (itemLength (noteOfParts p g y)) p whole) ∙ ap (drop (itemLength (noteOfParts p g y))) h ∙ behind y t in
-    note-of-part p′ fs′ ps t whole bl h′ k f x a b
+-- A list call accepts a block only if its bytes are the items of the unfolding by the standard's account, one after the other and nothing behind,
+pub accepted-is-block : (d s old new : List ℕ) → list d s old ≡ ok new → (xs : List Parts) × Block (unfolded d) xs s
+unfolding list
+accepted-is-block d s old new e =
+    let (_, a) = ok-reject (oversize d s) 1 0 _ new e in
+    let (n, _, b) = ok-bind (check d) (λ n. reject (ltb (length old) (2 + 2 * n)) 12 0 >> (walk (unfolded d) s >>= (λ ns. ok (itemList n (length s) ns old)))) new a in
+    let (_, c) = ok-reject (ltb (length old) (2 + 2 * n)) 12 0 _ new b in
+    let (ns, w, _) = ok-bind (walk (unfolded d) s) (λ ns. ok (itemList n (length s) ns old)) new c in
+    let x = walk-sound (unfolded d) s ns w in
+    (x .parts, x .block)
 
-module _ (d s old : List ℕ) (n : ℕ) (accepts : check d ≡ ok n) (few : length s ≤ 32768) (room : 2 + 2 * n ≤ length old) where
-  -- A block is accepted exactly when its bytes are the items of the unfolding by the standard's account, one after the other and nothing behind.
-  pub accepted-is-block : (new : List ℕ) → list d s old ≡ ok new → (xs : List Parts) × Block (unfolded d) xs s
-  accepted-is-block new e = go (walk (unfolded d) s) refl (sym (list-walks d s old n accepts few room) ∙ e)
-    where
-      go : (w : Result (List Note)) → walk (unfolded d) s ≡ w → (w >>= (λ ns. ok (itemList n (length s) ns old))) ≡ ok new
-          → (xs : List Parts) × Block (unfolded d) xs s
-      go (refuse m p) q h = absurd (let z : _≡_ {A = ℕ} 0 1 = cc in let w : ⊥ = omega arith in w)
-      go (ok ns) q h = let a = walk-sound (unfolded d) s ns q in (a .parts, a .block)
+module _ (d s : List ℕ) (n : ℕ) (accepts : check d ≡ ok n) (few : length s ≤ 32768) (xs : List Parts) (b : Block (unfolded d) xs s) where
+  -- and it accepts each such block.
+  pub block-is-accepted : (old : List ℕ) → 2 + 2 * n ≤ length old → list d s old ≡ ok (itemList n (length s) (notesOf 0 (unfolded d) xs) old)
+  block-is-accepted old room = rw (list-walks d s n accepts few old room, walk-complete (unfolded d) xs s b)
 
-  module _ (xs : List Parts) (b : Block (unfolded d) xs s) where
-    pub block-is-accepted : list d s old ≡ ok (itemList n (length s) (notesOf 0 (unfolded d) xs) old)
-    block-is-accepted = rw (list-walks d s old n accepts few room, walk-complete (unfolded d) xs s b)
-
-    -- Item k has the null mark, the value and the length of its part, the type code of its field, and the whole number that the type reads from the
-    -- value; 18 stands at its start.
-    pub read-as-accounted : (k : ℕ) (f : Field) (x : Parts) → getElem? (unfolded d) k ≡ some f → getElem? xs k ≡ some x
-        → (stateOf (itemAt d s k) ≡ record { number = 0; place = 0; null = x .isNull; code = f .code; length = length (x .value) })
-        × (lent s (itemAt d s k) ≡ x .value)
-        × ((q : ℕ) × (wholeNumber d s k ≡ (the (wholeOf (f .type) (x .value)) 18 q >>= (λ z. ok (x .isNull, if x .isNull then pos 0 else z)))))
-    unfolding wholeNumber
-    read-as-accounted k f x a c =
-        let v = note-of-part 0 (unfolded d) xs s s b refl k f x a c in
-        let i : itemAt d s k ≡ ok (noteOfParts (v .0) f x) = rw (item-walks d s old n accepts few room k, walk-complete (unfolded d) xs s b, v .1) in
-        (rw i, rw i (v .2), (v .0, rw (i, v .2)))
+  -- Item k has the null mark, the value and the length of its part, the type code of its field, and the whole number that the type reads from the
+  -- value; 18 stands at its start, behind the parts before it.
+  pub read-as-accounted : (k : ℕ) (f : Field) (x : Parts) → getElem? (unfolded d) k ≡ some f → getElem? xs k ≡ some x
+      → (stateOf (itemAt d s k) ≡ record { number = 0; place = 0; null = x .isNull; code = f .code; length = length (x .value) })
+      × (lent s (itemAt d s k) ≡ x .value)
+      × (wholeNumber d s k ≡ (the (wholeOf (f .type) (x .value)) 18 (startOf xs k) >>= (λ z. ok (x .isNull, if x .isNull then pos 0 else z))))
+  unfolding wholeNumber
+  read-as-accounted k f x a c =
+      let v = note-of-part 0 (unfolded d) xs s s b refl k f x a c in
+      let e : 0 + startOf xs k ≡ startOf xs k = omega arith in
+      let u : valueOf s (noteOfParts (startOf xs k) f x) ≡ x .value = rw e at (v .1) in
+      let i : itemAt d s k ≡ ok (noteOfParts (startOf xs k) f x) = rw (item-walks d s n accepts few k, walk-complete (unfolded d) xs s b, v .0, e) in
+      (rw i, rw i u, rw (i, u))

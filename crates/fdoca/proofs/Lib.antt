@@ -15,7 +15,6 @@ pub mod Count
 pub mod Limits
 pub mod Fields
 pub mod Numbers
-pub mod Demands
 pub mod Calls
 pub mod TripletBytes
 pub mod TypeRows
@@ -30,3 +29,4 @@ pub mod ItemTests
 pub mod ItemRows
 pub mod BlockRows
 pub mod CallRows
+pub mod Demands

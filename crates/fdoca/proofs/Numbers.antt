@@ -1,122 +1,60 @@
--- The numbers of the refusals: 1 to 11 by the check, and never 0 by a call.
+-- No reason of the table has the number 0, so that a call's number is 0 exactly where it accepts.
 -- Assumes nothing.
 use mathlib.Core.Path.{_≡_, refl}
-use Prim.Native.Nat.{ℕ, _+_, _*_, _≤_}
+use mathlib.Core.Logic.{_↔_}
+use Prim.Native.Nat.{ℕ, _≤_}
 use native.Mathlib.Omega.{arith}
-use mathlib.Core.Bool.{Bool, true, false, not}
-use mathlib.Core.List.{List, [], _∷_}
-use mathlib.Core.Option.{Option, none, some}
-use lib.Dec.{ltb, eqb}
-use lib.ListN.{length, getElem?}
-use Rattle.fdoca.specs.Basics.{product, lookup, Result, refuse, ok, _>>=_, _>>_, reject, the}
-use Rattle.fdoca.specs.Triplet.{Triplet, torn, triplet, triplets, Construct, SDA, RLO, ISD, CPT, constructOf, idOf, extentsOf, Group, groupsOf}
-use Rattle.fdoca.specs.Walk.{Note, walk}
-use Rattle.fdoca.specs.Check.{Entry, State, closed, countTaken, isDescribed, maxItems, maxDescriptor, addGroup, addGroups, goodLengthSDA, goodSDA, goodLengthRow, goodLengthISD, goodISD, checkSDA, checkRLO, checkCPT, checkISD, checkConstruct, checkTriplet, checkTriplets, begin, lastCount, check}
-use Rattle.fdoca.specs.Unfolding.{unfolded}
-use Rattle.fdoca.specs.Calls.{oversize, itemAt}
-use Rattle.fdoca.proofs.Stops.{walk-number}
+use mathlib.Core.List.{List}
+use Rattle.fdoca.specs.Basics.{Result, refuse, ok}
+use Rattle.fdoca.specs.Item.{Field}
+use Rattle.fdoca.specs.Calls.{itemAt}
+use Rattle.fdoca.specs.Reasons.{OfItem, short-data, bad-count, no-end, OfItems, item, surplus, OfDescriptor, triplet, nothing-described, OfBlock, descriptor, items, OfList, small-list, OfState, no-such-item, OfWholeNumber, state, wrong-kind, None}
+use Rattle.fdoca.proofs.TripletRows.{number-range}
+use Rattle.fdoca.proofs.FirstReasons.{Told, refused, accepted, refused-first}
+use Rattle.fdoca.proofs.CallRows.{state-told}
 
--- a property of a refusal's number, if there is one
-pub data IfRefused {A : Type 0} (P : ℕ → Type 0) : Result A → Type 0 where
-  found : {a : A} → IfRefused P (ok a)
-  numbered : {n p : ℕ} → P n → IfRefused P (refuse n p)
+pub descriptor-number : {d t : List ℕ} {m p : ℕ} → OfDescriptor d t m p → (1 ≤ m) × (m ≤ 11)
+descriptor-number (OfDescriptor.oversize h) = omega arith
+descriptor-number (triplet h r) = omega (arith, number-range r)
+descriptor-number (nothing-described h) = omega arith
 
-abbrev pub ByCheck : ℕ → Type 0
-ByCheck n = (1 ≤ n) × (n ≤ 11)
+item-of-number : {f : Field} {s : List ℕ} {step m : ℕ} → OfItem f s step m → 1 ≤ m
+item-of-number (short-data h) = omega arith
+item-of-number (bad-count h) = omega arith
+item-of-number (no-end h) = omega arith
 
-module _ {P : ℕ → Type 0} {A B : Type 0} where
-  then : (r : Result A) {f : A → Result B} → IfRefused P r → ((a : A) → IfRefused P (f a)) → IfRefused P (r >>= f)
-  then (refuse n p) (numbered h) g = numbered h
-  then (ok a) found g = g a
+items-number : {fs : List Field} {s t : List ℕ} {m p : ℕ} → OfItems fs s t m p → 1 ≤ m
+items-number (item x r) = item-of-number r
+items-number (surplus r b e l) = omega arith
 
-  known : (o : Option A) (n p : ℕ) {f : A → Result B} → P n → ((a : A) → IfRefused P (f a)) → IfRefused P (the o n p >>= f)
-  known none n p h g = numbered h
-  known (some a) n p h g = g a
+block-number : {d s t : List ℕ} {m p : ℕ} → OfBlock d s t m p → 1 ≤ m
+block-number (descriptor r) = descriptor-number r .0
+block-number (OfBlock.oversize h) = omega arith
+block-number (items r) = items-number r
 
-unless : {P : ℕ → Type 0} {B : Type 0} (b : Bool) (n p : ℕ) {r : Result B} → P n → IfRefused P r → IfRefused P (reject b n p >> r)
-unless true n p h g = numbered h
-unless false n p h g = g
+pub list-number : {d s t : List ℕ} {e m p : ℕ} → OfList d s e t m p → 1 ≤ m
+list-number (OfList.block r) = block-number r
+list-number (small-list h) = omega arith
 
-number-group : (p n : ℕ) (g : Group) (x : Option Entry) → IfRefused ByCheck (addGroup p n g x)
-unfolding addGroup
-number-group p n g x =
-    known x 8 p (omega arith)
-    (λ e. unless (eqb (g .factor) 0) 9 p (omega arith)
-    (known (countTaken (g .taken) e) 9 p (omega arith)
-    (λ k. unless (ltb maxItems (n + g .factor * k)) 10 p (omega arith) found)))
+pub state-number : {d s t : List ℕ} {k m p : ℕ} → OfState d s k t m p → 1 ≤ m
+state-number (OfState.block r) = block-number r
+state-number (no-such-item h) = omega arith
 
-number-groups : (p : ℕ) (es : List (ℕ × Entry)) (n : ℕ) (gs : List Group) → IfRefused ByCheck (addGroups p es n gs)
-unfolding addGroups
-number-groups p es n [] = found
-number-groups p es n (g ∷ gs) = then (addGroup p n g (lookup (g .ref) es)) (number-group p n g (lookup (g .ref) es)) (λ m. number-groups p es m gs)
+pub whole-number : {d s t : List ℕ} {k m p : ℕ} → OfWholeNumber d s k t m p → 1 ≤ m
+whole-number (state r) = state-number r
+whole-number (wrong-kind x a b) = omega arith
 
-number-construct : (c : Option Construct) (st : State) (p : ℕ) (t : List ℕ) → IfRefused ByCheck (checkConstruct c st p t)
-unfolding checkConstruct checkSDA checkRLO checkCPT checkISD
-number-construct none st p t = numbered {n = 3} (omega arith)
-number-construct (some SDA) st p t =
-    unless (not (goodLengthSDA t)) 5 p (omega arith)
-    (unless (not (goodSDA t)) 6 p (omega arith)
-    (unless (isDescribed (idOf t) (closed st)) 7 p (omega arith)
-    (unless (ltb maxItems (product (extentsOf t))) 10 p (omega arith) found)))
-number-construct (some RLO) st p t =
-    unless (not (goodLengthRow t)) 5 p (omega arith)
-    (unless (eqb (idOf t) 0) 6 p (omega arith)
-    (unless (isDescribed (idOf t) (closed st)) 7 p (omega arith)
-    (then (addGroups p (closed st) 0 (groupsOf t)) (number-groups p (closed st) 0 (groupsOf t)) (λ n. found))))
-number-construct (some ISD) st p t =
-    unless (not (eqb p 0)) 4 p (omega arith) (unless (not (goodLengthISD t)) 5 p (omega arith) (unless (not (goodISD t)) 6 p (omega arith) found))
-number-construct (some CPT) st p t =
-    known (st .current) 4 p (omega arith)
-    (λ r. unless (not (goodLengthRow t)) 5 p (omega arith)
-    (unless (not (eqb (idOf t) 0)) 6 p (omega arith)
-    (then (addGroups p (st .described) (r .1) (groupsOf t)) (number-groups p (st .described) (r .1) (groupsOf t)) (λ n. found))))
+-- the number of a result
+abbrev pub numberOf : {A : Type 0} → Result A → ℕ
+numberOf (refuse n p) = n
+numberOf (ok a) = 0
 
-number-triplet : (st : State) (t : Triplet) → IfRefused ByCheck (checkTriplet st t)
-unfolding checkTriplet
-number-triplet st (torn p) = numbered {n = 2} (omega arith)
-number-triplet st (triplet p t) = number-construct (constructOf t) st p t
-
-number-triplets : (st : State) (ts : List Triplet) → IfRefused ByCheck (checkTriplets st ts)
-unfolding checkTriplets
-number-triplets st [] = found
-number-triplets st (t ∷ ts) = then (checkTriplet st t) (number-triplet st t) (λ u. number-triplets u ts)
-
-number-last : (size : ℕ) (es : List (ℕ × Entry)) → IfRefused ByCheck (lastCount size es)
-number-last size [] = numbered {n = 11} (omega arith)
-number-last size (e ∷ es) = found
-
-number-check : (d : List ℕ) → IfRefused ByCheck (check d)
-unfolding check
-number-check d =
-    unless (ltb maxDescriptor (length d)) 1 0 (omega arith)
-    (then (checkTriplets begin (triplets d)) (number-triplets begin (triplets d)) (λ st. number-last (length d) (closed st)))
-
-refused-with : {A : Type 0} {P : ℕ → Type 0} {n p : ℕ} → IfRefused {A = A} P (refuse n p) → P n
-refused-with (numbered h) = h
-
--- The check refuses with a number from 1 to 11.
-pub check-number : (d : List ℕ) (n p : ℕ) → check d ≡ refuse n p → ByCheck n
-check-number d n p e = refused-with (rw e at (number-check d))
-
-widen : {A : Type 0} {P Q : ℕ → Type 0} {r : Result A} → ((n : ℕ) → P n → Q n) → IfRefused P r → IfRefused Q r
-widen f found = found
-widen f (numbered h) = numbered (f _ h)
-
-number-item : (d s : List ℕ) (k : ℕ) → IfRefused (λ n. 1 ≤ n) (itemAt d s k)
-unfolding itemAt
-number-item d s k =
-    unless (oversize d s) 1 0 (omega arith)
-    (then (check d) (widen (λ n h. h .0) (number-check d))
-    (λ n. then (walk (unfolded d) s) (go (walk (unfolded d) s) refl) (λ ns. last-one (getElem? ns k))))
-  where
-    go : (r : Result (List Note)) → walk (unfolded d) s ≡ r → IfRefused (λ n. 1 ≤ n) r
-    go (refuse n p) e = numbered {n = n} (omega (arith, walk-number (unfolded d) s n p e))
-    go (ok ns) e = found
-
-    last-one : (o : Option Note) → IfRefused (λ n. 1 ≤ n) (the o 17 0)
-    last-one none = numbered {n = 17} (omega arith)
-    last-one (some i) = found
+pub number-0 : {A : Type 0} {R : List ℕ → ℕ → ℕ → Type 0} {x : Result A} → Told R x → ((t : List ℕ) (m p : ℕ) → R t m p → 1 ≤ m) → (numberOf x ≡ 0) ↔ None R
+number-0 (refused {m = m} {p = p} f) h =
+    let l : 1 ≤ m = h (f .turn) m p (f .reason) in
+    (λ e. absurd (let z : ⊥ = omega arith in z), λ n. absurd (n (f .turn) m p (f .reason)))
+number-0 (accepted n) h = (λ e. n, λ m. refl)
 
 -- No refusal of an item has the number 0.
 pub item-number : (d s : List ℕ) (k n p : ℕ) → itemAt d s k ≡ refuse n p → 1 ≤ n
-item-number d s k n p e = refused-with (rw e at (number-item d s k))
+item-number d s k n p e = state-number (refused-first (itemAt d s k) (state-told d s k) n p .0 e .reason)

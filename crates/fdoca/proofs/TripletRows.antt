@@ -37,17 +37,17 @@ module _ {d : List ℕ} {j : ℕ} where
   by-row true t c k = refused refl (t .yes refl) c
   by-row false t c k = k refl (clear-more c (t .no refl))
 
-  pub number-small : {g m : ℕ} → OfTriplet d j g m → m ≤ 10
-  number-small (torn x) = omega arith
-  number-small (unknown-construct x) = omega arith
-  number-small (out-of-sequence x) = omega arith
-  number-small (bad-length x) = omega arith
-  number-small (bad-parameter x) = omega arith
-  number-small (name-taken x) = omega arith
-  number-small (too-many-items x) = omega arith
-  number-small (missing-reference x) = omega arith
-  number-small (not-carried x) = omega arith
-  number-small (too-many-up-to x) = omega arith
+  pub number-range : {g m : ℕ} → OfTriplet d j g m → (2 ≤ m) × (m ≤ 10)
+  number-range (torn x) = omega arith
+  number-range (unknown-construct x) = omega arith
+  number-range (out-of-sequence x) = omega arith
+  number-range (bad-length x) = omega arith
+  number-range (bad-parameter x) = omega arith
+  number-range (name-taken x) = omega arith
+  number-range (too-many-items x) = omega arith
+  number-range (missing-reference x) = omega arith
+  number-range (not-carried x) = omega arith
+  number-range (too-many-up-to x) = omega arith
 
   -- from the last number of a group on to the next group, whose first number is 8
   group-number : {k m : ℕ} → OfTriplet d j (suc k) m → 8 ≤ m
@@ -61,7 +61,7 @@ module _ {d : List ℕ} {j : ℕ} where
       go : (g < h) ⊎ ((h ≡ g) × (11 ≤ n)) → (suc g < h) ⊎ ((h ≡ suc g) × (8 ≤ n))
       go (inl l) =
           by-order (suc g) h (λ a. inl a) (λ e. inr (sym e, group-number (rw (← e) at r))) (λ a. absurd (let z : ⊥ = omega arith in z))
-      go (inr q) = absurd (let z : ⊥ = omega (arith, q .1, number-small r) in z)
+      go (inr q) = absurd (let z : ⊥ = omega (arith, q .1, number-range r .1) in z)
 
   -- the first number of all is 2
   pub first-number : Clear d j 0 2
@@ -130,7 +130,7 @@ module _ {d : List ℕ} {j : ℕ} where
       go : (g : ℕ) → OfTriplet d j g m → (k < g) ⊎ ((g ≡ k) × (11 ≤ m)) → ⊥
       go zero r (inl l) = omega arith
       go (suc i) r (inl l) = no-group i m (omega arith) r
-      go g r (inr q) = let z : ⊥ = omega (arith, q .1, number-small r) in z
+      go g r (inr q) = let z : ⊥ = omega (arith, q .1, number-range r .1) in z
 
   -- a whole triplet passes number 2, and one of a known type 3
   pub whole-clear : Whole d j → Clear d j 0 3
