@@ -10,7 +10,7 @@ use mathlib.Core.List.{List, [], _∷_, _++_}
 use mathlib.Core.Option.{Option, none, some}
 use lib.Dec.{ltb, eqb}
 use lib.ListN.{length, length-append, length-replicate}
-use Rattle.fdoca.specs.Basics.{if_then_else_, elem, lookup, repeat, product, ok, _>>=_, _>>_}
+use Rattle.fdoca.specs.Basics.{if_then_else_, elem, lookup, repeat, product, ok}
 use Rattle.fdoca.specs.Triplet.{Triplet, torn, triplet, triplets, Construct, SDA, RLO, ISD, CPT, constructOf, idOf, codeOf, extentsOf, Group, groupsOf}
 use Rattle.fdoca.specs.FieldType.{FieldType, typeOf}
 use Rattle.fdoca.specs.Item.{Field}
@@ -77,14 +77,16 @@ no-rule : (a b : Bool) → (a && false && b) ≡ false
 no-rule true b = refl
 no-rule false b = refl
 
+pub no-type-refused : (t : List ℕ) → typeOf (codeOf t) ≡ none → not (C.goodSDA t) ≡ false → ⊥
+no-type-refused t e h =
+    let g : C.goodSDA t ≡ false = rw e (no-rule (not (eqb (idOf t) 0)) (not (elem 0 (extentsOf t)))) in
+    true≢false (sym (ap not g) ∙ h)
+
 check-SDA : (u : U.Layouts) (p : ℕ) (t : List ℕ) (o : Option FieldType) → typeOf (codeOf t) ≡ o
     → IfOk (λ st. st ≡ state (U.unfoldSDA o u t)) (C.checkSDA (entries (U.closed u)) p t)
 unfolding C.checkSDA U.unfoldSDA
 check-SDA u p t none e =
-    reject-all (not (C.goodLengthSDA t)) 5 p
-    (λ h. reject-all (not (C.goodSDA t)) 6 p
-    (λ h₁. let g : C.goodSDA t ≡ false = rw e (no-rule (not (eqb (idOf t) 0)) (not (elem 0 (extentsOf t)))) in
-    absurd (true≢false (sym (ap not g) ∙ h₁))))
+    reject-all (not (C.goodLengthSDA t)) 5 p (λ h. reject-all (not (C.goodSDA t)) 6 p (λ h₁. absurd (no-type-refused t e h₁)))
 check-SDA u p t (some T) e =
     reject-all (not (C.goodLengthSDA t)) 5 p
     (λ h. reject-all (not (C.goodSDA t)) 6 p

@@ -29,4 +29,5 @@ pub mod ItemTests
 pub mod ItemRows
 pub mod BlockRows
 pub mod CallRows
+pub mod Stars
 pub mod Demands

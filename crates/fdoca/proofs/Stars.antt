@@ -1,0 +1,146 @@
+-- The unfolding of an accepted descriptor meets none of the cases that Unfolding marks with a star: it is what the other cases alone make.
+-- Assumes nothing.
+use mathlib.Core.Path.{_≡_, refl, ap}
+use Prim.Native.Nat.{ℕ, zero, suc, _+_, _*_}
+use native.Mathlib.Omega.{arith}
+use mathlib.Core.Bool.{not}
+use mathlib.Core.List.{List, [], _∷_, _++_}
+use mathlib.Core.Option.{Option, none, some}
+use lib.Dec.{ltb, eqb}
+use lib.ListN.{length, replicate}
+use Rattle.fdoca.specs.Basics.{lookup, repeat, product, ok}
+use Rattle.fdoca.specs.FieldType.{FieldType, typeOf}
+use Rattle.fdoca.specs.Triplet.{Triplet, torn, triplet, triplets, Construct, SDA, RLO, ISD, CPT, constructOf, idOf, codeOf, extentsOf, Group, groupsOf}
+use Rattle.fdoca.specs.Item.{Field}
+use Rattle.fdoca.specs.Check as C
+use Rattle.fdoca.specs.Unfolding.{Described, array, row, fieldsOf, fieldsTaken, Layouts, closed, groupFields, addFields, fieldOf, unfoldSDA, unfoldRLO, unfoldCPT, unfoldConstruct, unfoldTriplet, unfoldTriplets, start, lastFields, unfolded}
+use Rattle.fdoca.specs.Between.{entry, entries, rowCounted, state}
+use Rattle.fdoca.proofs.Results.{IfOk, none-owed, holds, bind-all, the-all, reject-all, for-all, both-all, always, ok-of}
+use Rattle.fdoca.proofs.Count.{entry?, lookup-entries, closed-state, no-type-refused, check-triplet, check-triplets}
+
+-- a group's list, once
+pub data Takes : ℕ → Described → List Field → Type 0 where
+  all : {D : Described} → Takes 0 D (fieldsOf D)
+  some-of : {k x : ℕ} {f : Field} {xs : List ℕ} → Takes (suc k) (array f (x ∷ xs)) (replicate (suc k * product xs) f)
+
+-- a list, with those of groups added to it
+pub data Adds (ds : List (ℕ × Described)) : List Field → List Group → List Field → Type 0 where
+  no-more : {l : List Field} → Adds ds l [] l
+  one-more : {l m o : List Field} {g : Group} {gs : List Group} {D : Described} → lookup (g .ref) ds ≡ some D → Takes (g .taken) D m
+      → Adds ds (l ++ repeat (g .factor) m) gs o → Adds ds l (g ∷ gs) o
+
+-- a triplet, after what the triplets before it unfold to
+pub data Unfolds (u : Layouts) (t : List ℕ) : Layouts → Type 0 where
+  of-SDA : {T : FieldType} → constructOf t ≡ some SDA → typeOf (codeOf t) ≡ some T
+      → Unfolds u t (record { described = (idOf t, array (fieldOf T t) (extentsOf t)) ∷ closed u; current = none })
+  of-RLO : {l : List Field} → constructOf t ≡ some RLO → Adds (closed u) [] (groupsOf t) l
+      → Unfolds u t (record { described = closed u; current = some (idOf t, l) })
+  of-ISD : constructOf t ≡ some ISD → Unfolds u t u
+  of-CPT : {r : ℕ × List Field} {l : List Field} → constructOf t ≡ some CPT → u .current ≡ some r → Adds (u .described) (r .1) (groupsOf t) l
+      → Unfolds u t (record { described = u .described; current = some (r .0, l) })
+
+pub data AllUnfold : Layouts → List Triplet → Layouts → Type 0 where
+  end : {u : Layouts} → AllUnfold u [] u
+  then : {u v w : Layouts} {p : ℕ} {t : List ℕ} {ts : List Triplet} → Unfolds u t v → AllUnfold v ts w → AllUnfold u (triplet p t ∷ ts) w
+
+-- what the whole descriptor unfolds to, by these cases
+pub record NoStar (d : List ℕ) : Type 0 where
+  pub layouts : Layouts
+  pub last-id : ℕ
+  pub last : Described
+  pub earlier : List (ℕ × Described)
+  pub triplets-unfold : AllUnfold start (triplets d) layouts
+  pub last-is : closed layouts ≡ (last-id, last) ∷ earlier
+  pub unfolding-is : unfolded d ≡ fieldsOf last
+
+taken-as : (k : ℕ) (D : Described) (m : ℕ) → C.countTaken k (entry D) ≡ some m → Takes k D (fieldsTaken k D)
+taken-as zero D m e = all
+taken-as (suc k) (array f []) m e = absurd (let z : _≡_ {A = ℕ} 0 1 = cc in let w : ⊥ = omega arith in w)
+taken-as (suc k) (array f (x ∷ xs)) m e = some-of
+taken-as (suc k) (row l) m e = absurd (let z : _≡_ {A = ℕ} 0 1 = cc in let w : ⊥ = omega arith in w)
+
+-- what a group refers to, and that it can take elements of it
+record Referred (ds : List (ℕ × Described)) (g : Group) : Type 0 where
+  to : Described
+  known : lookup (g .ref) ds ≡ some to
+  takes : Takes (g .taken) to (fieldsTaken (g .taken) to)
+
+group-as : (p n : ℕ) (g : Group) (ds : List (ℕ × Described)) (o : Option Described) → lookup (g .ref) ds ≡ o
+    → IfOk (λ m. Referred ds g) (C.addGroup p n g (entry? o))
+unfolding C.addGroup
+group-as p n g ds none e = none-owed
+group-as p n g ds (some D) e =
+    reject-all (eqb (g .factor) 0) 9 p
+    (λ h. the-all (C.countTaken (g .taken) (entry D)) 9 p
+    (λ k t. reject-all (ltb C.maxItems (n + g .factor * k)) 10 p
+    (λ h′. holds (record { to = D; known = e; takes = taken-as (g .taken) D k t }))))
+
+groups-as : (p n : ℕ) (ds : List (ℕ × Described)) (l : List Field) (gs : List Group) → IfOk (λ m. Adds ds l gs (addFields ds l gs)) (C.addGroups p (entries ds) n gs)
+unfolding C.addGroups addFields
+groups-as p n ds l [] = holds no-more
+groups-as p n ds l (g ∷ gs) =
+    rw (lookup-entries (g .ref) ds)
+    (bind-all (C.addGroup p n g (entry? (lookup (g .ref) ds))) (group-as p n g ds (lookup (g .ref) ds) refl)
+    (λ m r. for-all (λ x h. added r h) (groups-as p m ds (l ++ groupFields ds g) gs)))
+  where
+    added : (r : Referred ds g) → Adds ds (l ++ groupFields ds g) gs (addFields ds (l ++ groupFields ds g) gs) → Adds ds l (g ∷ gs) (addFields ds (l ++ groupFields ds g) gs)
+    added r h = rw (r .known) (one-more (r .known) (r .takes) (rw (r .known) at h))
+
+SDA-as : (u : Layouts) (p : ℕ) (t : List ℕ) (o : Option FieldType) → constructOf t ≡ some SDA → typeOf (codeOf t) ≡ o
+    → IfOk (λ st. Unfolds u t (unfoldSDA o u t)) (C.checkSDA (entries (closed u)) p t)
+unfolding C.checkSDA unfoldSDA
+SDA-as u p t none c e =
+    reject-all (not (C.goodLengthSDA t)) 5 p
+    (λ h. reject-all (not (C.goodSDA t)) 6 p
+    (λ h₁. absurd (no-type-refused t e h₁)))
+SDA-as u p t (some T) c e = always _ (of-SDA c e)
+
+CPT-as : (u : Layouts) (p : ℕ) (t : List ℕ) (o : Option (ℕ × List Field)) → constructOf t ≡ some CPT → u .current ≡ o
+    → IfOk (λ st. Unfolds u t (unfoldCPT o u t)) (C.checkCPT (record { described = entries (u .described); current = rowCounted o }) p t)
+unfolding C.checkCPT unfoldCPT
+CPT-as u p t none c e = none-owed
+CPT-as u p t (some r) c e =
+    reject-all (not (C.goodLengthRow t)) 5 p
+    (λ h. reject-all (not (eqb (idOf t) 0)) 6 p
+    (λ h₁. bind-all (C.addGroups p (entries (u .described)) (length (r .1)) (groupsOf t)) (groups-as p (length (r .1)) (u .described) (r .1) (groupsOf t))
+    (λ n a. holds (of-CPT c e a))))
+
+construct-as : (o : Option Construct) (u : Layouts) (p : ℕ) (t : List ℕ) → constructOf t ≡ o
+    → IfOk (λ st. Unfolds u t (unfoldConstruct o u t)) (C.checkConstruct o (state u) p t)
+unfolding C.checkConstruct C.checkRLO C.checkISD unfoldConstruct unfoldRLO
+construct-as none u p t c = none-owed
+construct-as (some SDA) u p t c = rw (closed-state u) (SDA-as u p t (typeOf (codeOf t)) c refl)
+construct-as (some RLO) u p t c =
+    rw (closed-state u)
+    (reject-all (not (C.goodLengthRow t)) 5 p
+    (λ h. reject-all (eqb (idOf t) 0) 6 p
+    (λ h₁. reject-all (C.isDescribed (idOf t) (entries (closed u))) 7 p
+    (λ h₂. bind-all (C.addGroups p (entries (closed u)) 0 (groupsOf t)) (groups-as p 0 (closed u) [] (groupsOf t)) (λ n a. holds (of-RLO c a))))))
+construct-as (some ISD) u p t c = always _ (of-ISD c)
+construct-as (some CPT) u p t c = CPT-as u p t (u .current) c refl
+
+triplets-as : (u : Layouts) (ts : List Triplet) → IfOk (λ st. AllUnfold u ts (unfoldTriplets u ts)) (C.checkTriplets (state u) ts)
+unfolding C.checkTriplets unfoldTriplets C.checkTriplet unfoldTriplet
+triplets-as u [] = holds end
+triplets-as u (torn p ∷ ts) = none-owed
+triplets-as u (triplet p t ∷ ts) =
+    bind-all (C.checkConstruct (constructOf t) (state u) p t) (both-all (check-triplet u (triplet p t)) (construct-as (constructOf t) u p t refl))
+    (λ st h. rw (h .0) (for-all (λ x k. then (h .1) k) (triplets-as (unfoldTriplet u (triplet p t)) ts)))
+
+last-as : (d : List ℕ) (ds : List (ℕ × Described)) (size : ℕ) → closed (unfoldTriplets start (triplets d)) ≡ ds → AllUnfold start (triplets d) (unfoldTriplets start (triplets d))
+    → IfOk (λ n. NoStar d) (C.lastCount size (entries ds))
+unfolding unfolded
+last-as d [] size e a = none-owed
+last-as d (x ∷ ds) size e a =
+    holds (record { layouts = unfoldTriplets start (triplets d); last-id = x .0; last = x .1; earlier = ds; triplets-unfold = a; last-is = e; unfolding-is = ap lastFields e })
+
+check-as : (d : List ℕ) → IfOk (λ n. NoStar d) (C.check d)
+unfolding C.check
+check-as d =
+    reject-all (ltb C.maxDescriptor (length d)) 1 0
+    (λ h. bind-all (C.checkTriplets C.begin (triplets d)) (both-all (check-triplets start (triplets d)) (triplets-as start (triplets d)))
+    (λ st g. rw (g .0, closed-state (unfoldTriplets start (triplets d))) (last-as d (closed (unfoldTriplets start (triplets d))) (length d) refl (g .1))))
+
+-- An accepted descriptor's unfolding has no case with a star.
+pub no-star : (d : List ℕ) (n : ℕ) → C.check d ≡ ok n → NoStar d
+no-star d n e = ok-of (rw e at (check-as d))
