@@ -1,5 +1,7 @@
 -- What the dump program prints (document 01, "The item list and the dump program"), as the bytes of its text.
 use Prim.Native.Nat.{ℕ, zero, suc, _+_, _/_, _%_}
+use Prim.Native.Char.{code}
+use Prim.Native.String.{String}
 use mathlib.Core.Bool.{_||_, not}
 use mathlib.Core.List.{List, [], _∷_, _++_}
 use lib.Dec.{ltb, eqb}
@@ -18,18 +20,22 @@ decimalBy (suc fuel) n = if ltb n 10 then (48 + n) ∷ [] else decimalBy fuel (n
 unfoldable pub decimal : ℕ → List ℕ
 decimal n = decimalBy (suc n) n
 
--- `items`, `bytes`, `null`, `refused`
+-- A word's bytes: the numbers of its characters.
+abbrev pub word : String → List ℕ
+word String.[] = []
+word (String._∷_ c s) = code c ∷ word s
+
 abbrev pub itemsWord : List ℕ
-itemsWord = 105 ∷ 116 ∷ 101 ∷ 109 ∷ 115 ∷ []
+itemsWord = word "items"
 
 abbrev pub bytesWord : List ℕ
-bytesWord = 98 ∷ 121 ∷ 116 ∷ 101 ∷ 115 ∷ []
+bytesWord = word "bytes"
 
 abbrev pub nullWord : List ℕ
-nullWord = 110 ∷ 117 ∷ 108 ∷ 108 ∷ []
+nullWord = word "null"
 
 abbrev pub refusedWord : List ℕ
-refusedWord = 114 ∷ 101 ∷ 102 ∷ 117 ∷ 115 ∷ 101 ∷ 100 ∷ []
+refusedWord = word "refused"
 
 -- Words one space apart, and a newline.
 abbrev pub line : List ℕ → List (List ℕ) → List ℕ
