@@ -4,7 +4,6 @@ use mathlib.Core.Path.{_≡_, refl, sym, ap, _∙_}
 use mathlib.Core.Logic.{_⊎_, inl, inr}
 use Prim.Native.Nat.{ℕ, _+_, _*_, _≤_, _<_}
 use native.Mathlib.Omega.{arith}
-use mathlib.Core.Bool.{Bool, true, false, _||_}
 use mathlib.Core.List.{List, [], _∷_, reverse}
 use mathlib.Core.Option.{Option, none, some}
 use lib.Dec.{ltb}
@@ -21,6 +20,7 @@ use Rattle.fdoca.specs.Calls.{maxData, oversize, itemList, list, itemAt,
 use Rattle.fdoca.specs.Reasons as R
 use Rattle.fdoca.specs.Reasons.{here, there, HasType, StartsAt, OfItems, item, surplus, OfDescriptor, nothing-described, OfBlock, descriptor, items, OfList, small-list, OfState, no-such-item, OfWholeNumber, state, wrong-kind, Earlier, First}
 use Rattle.fdoca.proofs.Results.{ok-bind, ok-reject}
+use Rattle.fdoca.proofs.Tests.{either-over, neither-over}
 use Rattle.fdoca.proofs.Table.{not-there, is-there}
 use Rattle.fdoca.proofs.Cover.{walk-covers}
 use Rattle.fdoca.proofs.Count.{count-is-length}
@@ -32,22 +32,12 @@ use Rattle.fdoca.proofs.CheckRows.{check-told}
 use Rattle.fdoca.proofs.BlockRows.{items-first, items-none, starts-unique, item-starts}
 
 -- Over a limit: turn 1.
-abbrev Sizes : (d s : List ℕ) → List ℕ → ℕ → ℕ → Type 0
+abbrev pub Sizes : (d s : List ℕ) → List ℕ → ℕ → ℕ → Type 0
 Sizes d s = Once ((4096 < length d) ⊎ (32768 < length s)) (1 ∷ []) 1 0
 
 sizes-told : (d s : List ℕ) → Told (Sizes d s) (reject (oversize d s) 1 0)
-sizes-told d s = reject-told (oversize d s) 1 0 (λ e. over (ltb maxDescriptor (length d)) (ltb maxData (length s)) refl refl e) (λ e. within (ltb maxDescriptor (length d)) (ltb maxData (length s)) refl refl e)
-  where
-    over : (a b : Bool) → ltb maxDescriptor (length d) ≡ a → ltb maxData (length s) ≡ b → (a || b) ≡ true → (4096 < length d) ⊎ (32768 < length s)
-    over true b x y e = inl (ltb-true maxDescriptor (length d) x)
-    over false true x y e = inr (ltb-true maxData (length s) y)
-    over false false x y e = absurd (let z : _≡_ {A = ℕ} 0 1 = cc in let w : ⊥ = omega arith in w)
-
-    within : (a b : Bool) → ltb maxDescriptor (length d) ≡ a → ltb maxData (length s) ≡ b → (a || b) ≡ false → (4096 < length d) ⊎ (32768 < length s) → ⊥
-    within true b x y e h = let z : _≡_ {A = ℕ} 0 1 = cc in let w : ⊥ = omega arith in w
-    within false true x y e h = let z : _≡_ {A = ℕ} 0 1 = cc in let w : ⊥ = omega arith in w
-    within false false x y e (inl h) = omega (arith, ltb-false maxDescriptor (length d) x)
-    within false false x y e (inr h) = omega (arith, ltb-false maxData (length s) y)
+sizes-told d s =
+    reject-told (oversize d s) 1 0 (either-over maxDescriptor (length d) maxData (length s)) (neither-over maxDescriptor (length d) maxData (length s))
 
 -- the items of an accepted descriptor
 pub items-told : (d s : List ℕ) (n : ℕ) → check d ≡ ok n → Told (OfItems (unfolded d) s) (walk (unfolded d) s)
@@ -58,42 +48,46 @@ items-told d s n e = go (walk (unfolded d) s) refl
     go (ok ns) h = accepted (items-none (unfolded d) s ns (fields-good d n e) h)
 
 -- a turn by its first number
-record From (a b : ℕ) (t : List ℕ) : Type 0 where
-  head : ℕ
-  tail : List ℕ
-  is : t ≡ head ∷ tail
-  low : a ≤ head
-  high : head ≤ b
+pub record From (a b : ℕ) (t : List ℕ) : Type 0 where
+  pub head : ℕ
+  pub tail : List ℕ
+  pub is : t ≡ head ∷ tail
+  pub low : a ≤ head
+  pub high : head ≤ b
 
-from : (a b h : ℕ) (l : List ℕ) → a ≤ h → h ≤ b → From a b (h ∷ l)
+pub from : (a b h : ℕ) (l : List ℕ) → a ≤ h → h ≤ b → From a b (h ∷ l)
 from a b h l x y = record { head = h; tail = l; is = refl; low = x; high = y }
 
-before-from : {a b c e : ℕ} {t u : List ℕ} → From a b t → From c e u → b < c → Earlier t u
+pub wider : {a b : ℕ} {t : List ℕ} (c e : ℕ) → c ≤ a → b ≤ e → From a b t → From c e t
+wider c e l h x = record { head = x .head; tail = x .tail; is = x .is; low = omega (arith, x .low); high = omega (arith, x .high) }
+
+pub before-from : {a b c e : ℕ} {t u : List ℕ} → From a b t → From c e u → b < c → Earlier t u
 before-from x y h = let l : x .head < y .head = omega (arith, x .high, y .low) in rw (x .is, y .is) (R.Earlier.here l)
 
-descriptor-from : {d t : List ℕ} {m p : ℕ} → OfDescriptor d t m p → From 1 3 t
+pub descriptor-from : {d t : List ℕ} {m p : ℕ} → OfDescriptor d t m p → From 1 3 t
 descriptor-from (OfDescriptor.oversize h) = from 1 3 1 [] (omega arith) (omega arith)
 descriptor-from (R.triplet {j = j} {g = g} {m = m} h r) = from 1 3 2 (j ∷ g ∷ m ∷ []) (omega arith) (omega arith)
 descriptor-from (nothing-described h) = from 1 3 3 [] (omega arith) (omega arith)
 
-items-from : {fs : List Field} {s t : List ℕ} {m p : ℕ} → OfItems fs s t m p → From 5 6 t
+pub items-from : {fs : List Field} {s t : List ℕ} {m p : ℕ} → OfItems fs s t m p → From 5 6 t
 items-from (item {k = k} {step = i} x r) = from 5 6 5 (k ∷ i ∷ []) (omega arith) (omega arith)
 items-from (surplus r b e l) = from 5 6 6 [] (omega arith) (omega arith)
 
+pub block-from : {d s t : List ℕ} {m p : ℕ} → OfBlock d s t m p → From 1 6 t
+block-from (descriptor r) = wider 1 6 (omega arith) (omega arith) (descriptor-from r)
+block-from (OfBlock.oversize h) = from 1 6 1 [] (omega arith) (omega arith)
+block-from (items r) = wider 1 6 (omega arith) (omega arith) (items-from r)
+
 -- which reasons come first
-precedes-either : {P Q S : List ℕ → ℕ → ℕ → Type 0} → Precedes P Q → Precedes P S → Precedes P (Either Q S)
+pub precedes-either : {P Q S : List ℕ → ℕ → ℕ → Type 0} → Precedes P Q → Precedes P S → Precedes P (Either Q S)
 precedes-either f g t u m p n q x (inl y) = f t u m p n q x y
 precedes-either f g t u m p n q x (inr y) = g t u m p n q x y
 
-either-precedes : {P Q S : List ℕ → ℕ → ℕ → Type 0} → Precedes P S → Precedes Q S → Precedes (Either P Q) S
-either-precedes f g t u m p n q (inl x) y = f t u m p n q x y
-either-precedes f g t u m p n q (inr x) y = g t u m p n q x y
-
-by-turns : {P Q : List ℕ → ℕ → ℕ → Type 0} (a b c e : ℕ) → b < c → ((t : List ℕ) (m p : ℕ) → P t m p → From a b t) → ((t : List ℕ) (m p : ℕ) → Q t m p → From c e t)
+pub by-turns : {P Q : List ℕ → ℕ → ℕ → Type 0} (a b c e : ℕ) → b < c → ((t : List ℕ) (m p : ℕ) → P t m p → From a b t) → ((t : List ℕ) (m p : ℕ) → Q t m p → From c e t)
     → Precedes P Q
 by-turns a b c e h f g t u m p n q x y = inl (before-from (f t m p x) (g u n q y) h)
 
-once-from : {P : Type 0} {h m p : ℕ} {l : List ℕ} (t : List ℕ) (n q : ℕ) → Once P (h ∷ l) m p t n q → From h h t
+pub once-from : {P : Type 0} {h m p : ℕ} {l : List ℕ} (t : List ℕ) (n q : ℕ) → Once P (h ∷ l) m p t n q → From h h t
 once-from {P} {h} {m} {p} {l} t n q (once x) = from h h h l (omega arith) (omega arith)
 
 sizes-precede : (d s : List ℕ) → Precedes (Sizes d s) (OfDescriptor d)
@@ -102,7 +96,7 @@ sizes-precede d s t u m p n q (once x) (R.triplet y z) = inl (R.Earlier.here {a 
 sizes-precede d s t u m p n q (once x) (nothing-described y) = inl (R.Earlier.here {a = 1} {b = 3} (omega arith))
 
 -- one result behind another
-told-after : {A B : Type 0} {P Q : List ℕ → ℕ → ℕ → Type 0} (x : Result A) (y : Result B) → Precedes P Q → Told P x → Told Q y → Told (Either P Q) (x >> y)
+pub told-after : {A B : Type 0} {P Q : List ℕ → ℕ → ℕ → Type 0} (x : Result A) (y : Result B) → Precedes P Q → Told P x → Told Q y → Told (Either P Q) (x >> y)
 told-after {A} {B} x y h a b = rw (same x y) (told-then x (λ i. y) h a (λ i e. b))
   where
     same : (x : Result A) (y : Result B) → (x >> y) ≡ (x >>= (λ i. y))
@@ -114,14 +108,14 @@ told-made x f (refused h) = refused h
 told-made x f (accepted h) = accepted h
 
 -- The descriptor, then what comes behind it of an accepted one.
-described-then : {A : Type 0} {Q : List ℕ → ℕ → ℕ → Type 0} (d s : List ℕ) (f : ℕ → Result A) → ((t : List ℕ) (m p : ℕ) → Q t m p → From 4 8 t)
+pub described-then : {A : Type 0} {Q : List ℕ → ℕ → ℕ → Type 0} (d s : List ℕ) (f : ℕ → Result A) → ((t : List ℕ) (m p : ℕ) → Q t m p → From 4 8 t)
     → ((n : ℕ) → check d ≡ ok n → Told Q (f n)) → Told (Either (Sizes d s) (Either (OfDescriptor d) Q)) (reject (oversize d s) 1 0 >> (check d >>= f))
 described-then d s f late next =
     told-after (reject (oversize d s) 1 0) (check d >>= f) (precedes-either (sizes-precede d s) (by-turns 1 1 4 8 (omega arith) once-from late))
     (sizes-told d s) (told-then (check d) f (by-turns 1 3 4 8 (omega arith) (λ t m p x. descriptor-from x) late) (check-told d) next)
 
-late-items : {fs : List Field} {s : List ℕ} (t : List ℕ) (m p : ℕ) → OfItems fs s t m p → From 4 8 t
-late-items t m p x = let h = items-from x in record { head = h .head; tail = h .tail; is = h .is; low = omega (arith, h .low); high = omega (arith, h .high) }
+pub late-items : {fs : List Field} {s : List ℕ} (t : List ℕ) (m p : ℕ) → OfItems fs s t m p → From 4 8 t
+late-items t m p x = wider 4 8 (omega arith) (omega arith) (items-from x)
 
 late-either : {P Q : List ℕ → ℕ → ℕ → Type 0} → ((t : List ℕ) (m p : ℕ) → P t m p → From 4 8 t) → ((t : List ℕ) (m p : ℕ) → Q t m p → From 4 8 t)
     → (t : List ℕ) (m p : ℕ) → Either P Q t m p → From 4 8 t
@@ -159,7 +153,7 @@ module _ (d s old : List ℕ) where
   list-told =
       told-as to-list of-list
       (described-then d s (λ n. reject (ltb (length old) (2 + 2 * n)) 12 0 >> (walk (unfolded d) s >>= (λ ns. ok (itemList n (length s) ns old))))
-      (late-either (λ t m p x. (let h = once-from t m p x in record { head = h .head; tail = h .tail; is = h .is; low = h .low; high = omega (arith, h .high) })) late-items)
+      (late-either (λ t m p x. wider 4 8 (omega arith) (omega arith) (once-from t m p x)) late-items)
       (λ n e. told-after (reject (ltb (length old) (2 + 2 * n)) 12 0) (walk (unfolded d) s >>= (λ ns. ok (itemList n (length s) ns old)))
       (by-turns 4 4 5 6 (omega arith) once-from (λ t m p x. items-from x)) (small-told n e)
       (told-made (walk (unfolded d) s) (λ ns. itemList n (length s) ns old) (items-told d s n e))))
@@ -195,7 +189,7 @@ module _ (d s : List ℕ) (k : ℕ) where
   state-told =
       told-as to-state of-state
       (described-then d s (λ n. walk (unfolded d) s >>= (λ ns. the (getElem? ns k) 17 0))
-      (late-either late-items (λ t m p x. (let h = once-from t m p x in record { head = h .head; tail = h .tail; is = h .is; low = omega (arith, h .low); high = omega (arith, h .high) })))
+      (late-either late-items (λ t m p x. wider 4 8 (omega arith) (omega arith) (once-from t m p x)))
       (λ n e. told-then (walk (unfolded d) s) (λ ns. the (getElem? ns k) 17 0) (by-turns 5 6 7 7 (omega arith) (λ t m p x. items-from x) once-from) (items-told d s n e)
       (λ ns h. nth-told ns h)))
 
@@ -298,9 +292,7 @@ module _ (d s : List ℕ) (k : ℕ) where
   of-whole t m p (wrong-kind x a b) = inr (another x a b)
 
   state-from : (t : List ℕ) (m p : ℕ) → OfState d s k t m p → From 1 7 t
-  state-from t m p (OfState.block (descriptor r)) = let h = descriptor-from r in record { head = h .head; tail = h .tail; is = h .is; low = h .low; high = omega (arith, h .high) }
-  state-from t m p (OfState.block (OfBlock.oversize l)) = from 1 7 1 [] (omega arith) (omega arith)
-  state-from t m p (OfState.block (items r)) = let h = items-from r in record { head = h .head; tail = h .tail; is = h .is; low = omega (arith, h .low); high = omega (arith, h .high) }
+  state-from t m p (OfState.block r) = wider 1 7 (omega arith) (omega arith) (block-from r)
   state-from t m p (no-such-item h) = from 1 7 7 [] (omega arith) (omega arith)
 
   kind-from : (t : List ℕ) (m p : ℕ) → WrongKind t m p → From 8 8 t

@@ -4,7 +4,7 @@
 -- Demand 2: a block is accepted exactly when its bytes are the items of the unfolding by the standard's account, and it is read as that account says.
 -- Demand 3: what the walk says is what the list and the states say; the count is the descriptor's alone; the items cover the block.
 -- Assumes nothing.
-use mathlib.Core.Path.{_≡_, refl, sym}
+use mathlib.Core.Path.{_≡_, refl, sym, ap, _∙_}
 use mathlib.Core.Logic.{_↔_}
 use Prim.Native.Nat.{ℕ, _+_, _*_, _≤_, _<_}
 use native.Mathlib.Omega.{arith}
@@ -22,7 +22,8 @@ use Rattle.fdoca.specs.Check.{maxDescriptor, check}
 use Rattle.fdoca.specs.Unfolding.{unfolded}
 use Rattle.fdoca.specs.Account.{Parts, Block}
 use Rattle.fdoca.specs.Calls.{maxData, oversize, itemList, list, itemAt, valueOf, wholeOf, wholeNumber, checked, listed, entriesAfter, stateOf, lent, wholeAnswer}
-use Rattle.fdoca.specs.Reasons.{OfItems, OfDescriptor, OfList, OfState, OfWholeNumber, First, None}
+use Rattle.fdoca.specs.Reasons.{OfItems, OfDescriptor, OfList, OfState, OfWholeNumber, fileDescriptor, fileData, OfFile, First, None}
+use Rattle.fdoca.specs.Dump.{refusedLine, textOf, secondSize, dump}
 use Rattle.fdoca.specs.Cover.{sum, positions, lengths, InItem, startOf, notesOf, noteOfParts}
 use Rattle.fdoca.proofs.Table.{there, past-end}
 use Rattle.fdoca.proofs.Results.{ok-bind, ok-reject}
@@ -34,6 +35,7 @@ use Rattle.fdoca.proofs.Calls.{items-noted, list-keeps}
 use Rattle.fdoca.proofs.FirstReasons.{refused-first, accepted-none}
 use Rattle.fdoca.proofs.CheckRows.{check-told}
 use Rattle.fdoca.proofs.CallRows.{items-told, list-told, state-told, whole-told}
+use Rattle.fdoca.proofs.FileRows.{fileNotes, file-text, file-told, file-listed}
 use Rattle.fdoca.proofs.Numbers.{descriptor-number, list-number, state-number, whole-number, numberOf, number-0}
 
 -- DEMAND 1
@@ -105,6 +107,17 @@ whole-number-0 d s k = rw (same (wholeNumber d s k)) (number-0 (whole-told d s k
     same : (x : Result (Bool × ℤ)) → wholeAnswer x .number ≡ numberOf x
     same (refuse m p) = refl
     same (ok a) = refl
+
+-- The dump program prints the refusal of its file's first reason, 19 among them, or else the items of the file's block.
+module _ (f : List ℕ) where
+  pub dump-refuses : (m p : ℕ) → First (OfFile f) m p → dump f ≡ refusedLine m p
+  dump-refuses m p h = file-text f ∙ ap (textOf (secondSize f)) (refused-first (fileNotes f) (file-told f) m p .1 h)
+
+  pub dump-lists : None (OfFile f) → (ns : List Note) × (walk (unfolded (fileDescriptor f)) (fileData f) ≡ ok ns) × (dump f ≡ textOf (length (fileData f)) (ok ns))
+  dump-lists h =
+      let (ns, e) = accepted-none (fileNotes f) (file-told f) .1 h in
+      let (w, l) = file-listed f ns e in
+      (ns, w, file-text f ∙ ap (textOf (secondSize f)) e ∙ ap (λ n. textOf n (ok ns)) (sym l))
 
 -- DEMAND 3
 

@@ -7,7 +7,7 @@ use native.Mathlib.Omega.{arith}
 use mathlib.Core.Bool.{Bool, true, false}
 use mathlib.Core.List.{List}
 use mathlib.Core.Option.{Option, none, some}
-use Rattle.fdoca.specs.Basics.{Result, refuse, ok, _>>=_, reject, the}
+use Rattle.fdoca.specs.Basics.{Result, refuse, ok, _>>=_, _>>_, reject, the}
 use Rattle.fdoca.specs.Reasons.{Earlier, here, further, First, None}
 
 pub data Told {A : Type 0} (R : List ℕ → ℕ → ℕ → Type 0) : Result A → Type 0 where
@@ -107,6 +107,18 @@ nothing-once {P} {t} {m} {p} n u k q (once h) = n h
 pub reject-told : {P : Type 0} {t : List ℕ} (b : Bool) (m p : ℕ) → (b ≡ true → P) → (b ≡ false → P → ⊥) → Told (Once P t m p) (reject b m p)
 reject-told true m p f g = refused (alone (f refl))
 reject-told false m p f g = accepted (nothing-once (g refl))
+
+pub told-tested : {A P : Type 0} {S : List ℕ → ℕ → ℕ → Type 0} {t : List ℕ} {y : Result A} (b : Bool) (m p : ℕ) → Precedes (Once P t m p) S → (b ≡ true → P)
+    → (b ≡ false → P → ⊥) → (b ≡ false → Told S y) → Told (Either (Once P t m p) S) (reject b m p >> y)
+told-tested {A} {P} {S} {t} {y} b m p before f g next = rw (same b) (told-then (reject b m p) (λ u. y) before (reject-told b m p f g) (λ u e. next (passed b e)))
+  where
+    same : (b : Bool) → (reject b m p >> y) ≡ (reject b m p >>= (λ u. y))
+    same true = refl
+    same false = refl
+
+    passed : (b : Bool) {u : Unit {0}} → reject b m p ≡ ok u → b ≡ false
+    passed true e = absurd (let z : _≡_ {A = ℕ} 0 1 = cc in let w : ⊥ = omega arith in w)
+    passed false e = refl
 
 pub the-told : {A P : Type 0} {t : List ℕ} (o : Option A) (m p : ℕ) → (o ≡ none → P) → ((a : A) → o ≡ some a → P → ⊥) → Told (Once P t m p) (the o m p)
 the-told none m p f g = refused (alone (f refl))

@@ -30,4 +30,5 @@ pub mod ItemRows
 pub mod BlockRows
 pub mod CallRows
 pub mod Stars
+pub mod FileRows
 pub mod Demands

@@ -3,7 +3,8 @@
 use mathlib.Core.Path.{_≡_, refl, sym}
 use Prim.Native.Nat.{ℕ, _≤_, _<_}
 use native.Mathlib.Omega.{arith}
-use mathlib.Core.Bool.{Bool, true, false, _&&_, true≢false}
+use mathlib.Core.Logic.{_⊎_, inl, inr}
+use mathlib.Core.Bool.{Bool, true, false, _&&_, _||_, true≢false}
 use lib.Dec.{leb, ltb, eqb}
 use borrow.Author.Tests.{lt-ltb, le-ltb, le-leb, lt-leb, eq-eqb, ne-eqb, ltb-true, ltb-false, leb-true, leb-false, eqb-true, eqb-false}
 use Rattle.fdoca.specs.Basics.{if_then_else_}
@@ -46,3 +47,22 @@ and-left false b h = h
 pub and-right : (a b : Bool) → (a && b) ≡ true → b ≡ true
 and-right true b h = h
 and-right false b h = absurd (true≢false (sym h))
+
+-- one of two numbers is over its limit
+module _ (m x n y : ℕ) where
+  pub either-over : (ltb m x || ltb n y) ≡ true → (m < x) ⊎ (n < y)
+  either-over = go (ltb m x) (ltb n y) refl refl
+    where
+      go : (a b : Bool) → ltb m x ≡ a → ltb n y ≡ b → (a || b) ≡ true → (m < x) ⊎ (n < y)
+      go true b t u h = inl (ltb-true m x t)
+      go false true t u h = inr (ltb-true n y u)
+      go false false t u h = absurd (true≢false (sym h))
+
+  pub neither-over : (ltb m x || ltb n y) ≡ false → (m < x) ⊎ (n < y) → ⊥
+  neither-over = go (ltb m x) (ltb n y) refl refl
+    where
+      go : (a b : Bool) → ltb m x ≡ a → ltb n y ≡ b → (a || b) ≡ false → (m < x) ⊎ (n < y) → ⊥
+      go true b t u h k = true≢false h
+      go false true t u h k = true≢false h
+      go false false t u h (inl k) = omega (arith, ltb-false m x t)
+      go false false t u h (inr k) = omega (arith, ltb-false n y u)

@@ -12,7 +12,7 @@ use Rattle.fdoca.specs.Reasons.{byte, twoBytes, place, LENGTH, byteOf, W
 use Rattle.fdoca.proofs.Account.{big-two}
 
 -- the bytes of a run from a place on
-two-at : (l : List ℕ) (i : ℕ) → i + 1 < length l → drop i l ≡ byte l i ∷ byte l (i + 1) ∷ drop (i + 2) l
+pub two-at : (l : List ℕ) (i : ℕ) → i + 1 < length l → drop i l ≡ byte l i ∷ byte l (i + 1) ∷ drop (i + 2) l
 two-at l i h =
     let e₁ : i + 1 ≡ suc i = omega arith in
     let e₂ : i + 2 ≡ suc (suc i) = omega arith in

@@ -5,7 +5,7 @@ use mathlib.Core.Path.{_≡_}
 use mathlib.Core.Logic.{_≢_, _⊎_}
 use Prim.Native.Nat.{ℕ, zero, suc, _+_, _*_, _≤_, _<_}
 use mathlib.Core.List.{List, [], _∷_, _++_}
-use lib.ListN.{length, getD}
+use lib.ListN.{length, take, drop, getD}
 use Rattle.fdoca.specs.Item.{Field}
 use Rattle.fdoca.specs.Account.{Parts, Block}
 use Rattle.fdoca.specs.Unfolding.{unfolded}
@@ -310,6 +310,23 @@ pub data OfWholeNumber (d s : List ℕ) (k : ℕ) : (turn : List ℕ) → (numbe
   state : {t : List ℕ} {m p : ℕ} → OfState d s k t m p → OfWholeNumber d s k t m p
   wrong-kind : {q : ℕ} {f : Field} {rest : List ℕ} → StartsAt (unfolded d) s k f q rest → (HasType f 0x23 → ⊥) → (HasType f 0x24 → ⊥)
       → OfWholeNumber d s k (8 ∷ []) 18 q
+
+-- The dump program's file: descriptor size and data size, four bytes each, most significant first, descriptor, data. 19, Bad file: it doesn't fit its
+-- sizes; under 8 bytes before a size over its limit, another length after it.
+abbrev pub fourBytes : List ℕ → (place : ℕ) → ℕ
+fourBytes s p = twoBytes s p * 65536 + twoBytes s (p + 2)
+
+abbrev pub fileDescriptor : List ℕ → List ℕ
+fileDescriptor f = take (fourBytes f 0) (drop 8 f)
+
+abbrev pub fileData : List ℕ → List ℕ
+fileData f = drop (8 + fourBytes f 0) f
+
+pub data OfFile (f : List ℕ) : (turn : List ℕ) → (number place : ℕ) → Type 0 where
+  under-8 : length f < 8 → OfFile f (0 ∷ 0 ∷ []) 19 0
+  oversize : (4096 < fourBytes f 0) ⊎ (32768 < fourBytes f 4) → OfFile f (0 ∷ 1 ∷ []) 1 0
+  other-length : length f ≢ 8 + fourBytes f 0 + fourBytes f 4 → OfFile f (0 ∷ 2 ∷ []) 19 0
+  block : {t : List ℕ} {m p : ℕ} → OfBlock (fileDescriptor f) (fileData f) t m p → OfFile f t m p
 
 -- A turn comes earlier by the first number in which it differs.
 pub data Earlier : List ℕ → List ℕ → Type 0 where
