@@ -58,7 +58,7 @@ module _ (d s z e plan : List ℕ) (id : ℕ) (rd : Ready d s z e id (length pla
           go (refuse n p) a = record { answered = rw (q, a); entries = refl }
           go (ok ns) a = absurd (h (rw a))
 
-      pub listed-way : (new : List ℕ) (r : Listed) → stop .number ≡ 0 → r ≡ record { number = 0; place = 0 }
+      pub listed-way : (new : List ℕ) (r : Listed) → stop .number ≡ 0 → r ≡ record { number = stop .number; place = stop .place }
           → new ≡ listBy plan″ (length x) old
           → ListedAs (itemsInto (length plan) (unfolded d) x old) old r new
       unfolding itemsInto stopOf
@@ -76,4 +76,4 @@ module _ (d s z e plan : List ℕ) (id : ℕ) (rd : Ready d s z e id (length pla
               let n : length ns ≡ length plan = as-many plan′ (unfolded d) x ns planned e ∙ long in
               let m : plan″ ≡ map markOf ns = marked .marks ∙ good-marks (unfolded d) x ns e in
               let k : new ≡ itemList (length ns) (length x) ns old = g ∙ list-by-marks plan″ (length x) old ns (all-noted plan′ (unfolded d) x ns planned e) m in
-              record { answered = q; entries = rw n at k }
+              record { answered = rw (q, a); entries = rw n at k }

@@ -48,16 +48,12 @@ fn list_by(
 {
     plans::write(desc, starts, sizes, entries, plan, id);
     let stop = walks::mark(plan, data);
-    if stop.number != 0 {
-        return Listed {
-            number: stop.number,
-            place: stop.place,
-        };
+    if stop.number == 0 {
+        walks::write_list(plan, data.len(), list);
     }
-    walks::write_list(plan, data.len(), list);
     Listed {
-        number: 0,
-        place: 0,
+        number: stop.number,
+        place: stop.place,
     }
 }
 

@@ -11,7 +11,7 @@ use Rattle.fdoca.specs.Check.{check}
 use Rattle.fdoca.specs.Unfolding.{unfolded}
 use Rattle.fdoca.specs.Calls.{checked}
 use Rattle.plans.specs.Plan.{entryOf, Planned}
-use Rattle.plans.specs.Tied.{describedBy, listOf, Known}
+use Rattle.plans.specs.Tied.{describedBy, listOf}
 use Rattle.plans.proofs.Fields.{planned, first-numbers}
 use Rattle.descriptors.specs.declared.Examined.{Examined}
 use Rattle.descriptors.specs.Holds.{Ready, examined, Examination}
@@ -32,9 +32,6 @@ as-checked d s z e x w = go (check d) (w .result)
     go (ok n) q = rw q
 
 module _ (d s z e plan : List ℕ) (id : ℕ) (rd : Ready d s z e id (length plan)) where
-  pub ready-known : Known d id
-  ready-known = rd .known
-
   pub ready-room : length (listOf d id) ≤ length plan
   ready-room = omega (arith, rd .count, ap length (rd .whole))
 

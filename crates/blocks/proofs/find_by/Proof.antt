@@ -1,11 +1,11 @@
-use Rattle.descriptors.proofs.Callers.{ready-known, ready-room}
+use Rattle.descriptors.proofs.Callers.{ready-room}
 use Rattle.blocks.proofs.Plans.{is-plan, found-way}
 use borrow.Author.Needs.{needs}
 use Rattle.blocks.proofs.find_by.Statement.{statement}
 use Rattle.blocks.proofs.find_by.Tie as tie
 
 write-requires : tie.Need-write-requires
-write-requires c κs = search (needs, ready-known, ready-room)
+write-requires c κs = search (needs, ready-room)
 
 find-requires : tie.Need-find-requires
 find-requires c κs = search (needs, is-plan)

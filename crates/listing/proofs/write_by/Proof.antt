@@ -1,4 +1,4 @@
-use Rattle.descriptors.proofs.Callers.{ready-known, ready-room}
+use Rattle.descriptors.proofs.Callers.{ready-room}
 -- `listing::write_by` meets its contract.
 -- Assumes nothing.
 use borrow.Author.Needs.{needs}
@@ -7,7 +7,7 @@ use Rattle.listing.proofs.write_by.Statement.{statement}
 use Rattle.listing.proofs.write_by.Tie as tie
 
 write-requires : tie.Need-write-requires
-write-requires c κs = search (needs, ready-known, ready-room)
+write-requires c κs = search (needs, ready-room)
 
 mark-requires : tie.Need-mark-requires
 mark-requires c κs = search (needs, is-plan)
