@@ -1,6 +1,6 @@
 -- Document 01's table "Numbers a caller can meet", row by row: for each number its column "When", said of a triplet, a group, an item or a call by
--- itself, with its place and without regard to the other rows; then 01's order. Bytes are read at their places here, and nothing is shared with the
--- check, with measuring, or with the calls.
+-- itself, with its place and without regard to the other rows; then 01's order. Bytes are read at their places. The unfolding and the standard's account
+-- of an item are taken from their own files; nothing is taken from the check, from measuring, or from the calls.
 use mathlib.Core.Path.{_≡_}
 use mathlib.Core.Logic.{_≢_, _⊎_}
 use Prim.Native.Nat.{ℕ, zero, suc, _+_, _*_, _≤_, _<_}
@@ -285,24 +285,30 @@ pub data OfItems (fs : List Field) (s : List ℕ) : (turn : List ℕ) → (numbe
 -- THE CALLS: each reason with its turn in 01's order, its number and its place. The order is 1; triplets left to right, each by rising number, with 8, 9,
 -- 10 taken group by group; 11; 12 (list call only); then items in order, each by its steps; 16; 17; 18.
 pub data OfDescriptor (d : List ℕ) : (turn : List ℕ) → (number place : ℕ) → Type 0 where
+  -- 1, Oversize: the descriptor over its limit
   oversize : 4096 < length d → OfDescriptor d (1 ∷ []) 1 0
+  -- 2 to 10, at the triplet
   triplet : {j g m : ℕ} → There d j → OfTriplet d j g m → OfDescriptor d (2 ∷ j ∷ g ∷ m ∷ []) m (place d j)
+  -- 11, Nothing described: no SDA or RLO
   nothing-described : ((id j : ℕ) → Describes d id j → ⊥) → OfDescriptor d (3 ∷ []) 11 (length d)
 
--- The unfolding of the descriptor has the block's fields.
+-- A descriptor with data: the fields are those of its unfolding.
 pub data OfBlock (d s : List ℕ) : (turn : List ℕ) → (number place : ℕ) → Type 0 where
   descriptor : {t : List ℕ} {m p : ℕ} → OfDescriptor d t m p → OfBlock d s t m p
+  -- 1, Oversize: the data over its limit
   oversize : 32768 < length s → OfBlock d s (1 ∷ []) 1 0
   items : {t : List ℕ} {m p : ℕ} → OfItems (unfolded d) s t m p → OfBlock d s t m p
 
 -- The list call, with a list of so many entries.
 pub data OfList (d s : List ℕ) (entries : ℕ) : (turn : List ℕ) → (number place : ℕ) → Type 0 where
   block : {t : List ℕ} {m p : ℕ} → OfBlock d s t m p → OfList d s entries t m p
+  -- 12, Small list: under 2 + 2n entries for n items
   small-list : entries < 2 + 2 * length (unfolded d) → OfList d s entries (4 ∷ []) 12 0
 
 -- The state call, and lending, for item k.
 pub data OfState (d s : List ℕ) (k : ℕ) : (turn : List ℕ) → (number place : ℕ) → Type 0 where
   block : {t : List ℕ} {m p : ℕ} → OfBlock d s t m p → OfState d s k t m p
+  -- 17, No such item: item number n or more
   no-such-item : length (unfolded d) ≤ k → OfState d s k (7 ∷ []) 17 0
 
 -- The whole-number read of item k. 18, Wrong kind: of another type, null or not.

@@ -1,5 +1,5 @@
 -- The unfolding of an accepted descriptor (document 01, "Unfolding and walk"): the list of its fields, made from its bytes.
--- The cases marked * occur in no accepted descriptor.
+-- The cases marked * occur in no accepted descriptor: theorem `no-star` of proofs/Stars.
 use Prim.Native.Nat.{ℕ, zero, suc, _*_}
 use mathlib.Core.List.{List, [], _∷_, _++_}
 use mathlib.Core.Option.{Option, none, some}

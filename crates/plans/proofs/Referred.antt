@@ -15,12 +15,12 @@ use Rattle.fdoca.specs.Item.{Field}
 use Rattle.fdoca.specs.Unfolding.{Described, array, row, fieldsTaken, fieldsReferred}
 use Rattle.plans.specs.Plan.{entryOf}
 use Rattle.plans.specs.Tied.{describedBy, listOf, rowList, Takes, all, some-of, Refers, RowAt, SdaKept, Kept, Tied, Known}
-use Rattle.plans.specs.Writing.{groupAt, groupList, countTaken}
+use Rattle.plans.specs.Writing.{groupAt, groupList, entriesTaken}
 use Rattle.plans.proofs.Lists.{length-repeat, repeat-first, repeat-replicate, sets-append, read-back, map-repeat, map-replicate}
 
 sda-once : {z e : List ℕ} {i : ℕ} (t : ℕ) (f : Field) (xs : List ℕ) → SdaKept z e i f xs → Takes t (array f xs)
-    → fieldsTaken t (array f xs) ≡ replicate (countTaken (getD z i 0) t) f
-unfolding countTaken
+    → fieldsTaken t (array f xs) ≡ replicate (entriesTaken (getD z i 0) t) f
+unfolding entriesTaken
 sda-once zero f xs k all = ap (λ (n : ℕ). replicate n f) (sym (k .count))
 sda-once (suc t) f (x ∷ xs) k some-of = simp (ne-eqb (suc t) 0 (λ h. omega arith)) (ap (λ (n : ℕ). replicate (suc t * n) f) (sym (k .lower)))
 
@@ -35,11 +35,11 @@ row-itself r = record { head = r .head; fields = refl; groups = r .groups }
 module _ (d s z e : List ℕ) (i t : ℕ) (tied : Tied d s z e) where
   -- an entry other than 0 is an SDA's
   sda-fields : (D : Described) → lookup i (describedBy d) ≡ some D → Takes t D → (getD e i 0 ≡ 0 → ⊥)
-      → (f : Field) × (fieldsReferred t (lookup i (describedBy d)) ≡ replicate (countTaken (getD z i 0) t) f) × (entryOf f ≡ getD e i 0)
+      → (f : Field) × (fieldsReferred t (lookup i (describedBy d)) ≡ replicate (entriesTaken (getD z i 0) t) f) × (entryOf f ≡ getD e i 0)
   sda-fields D o h m = go D o h (tied .each i D o)
     where
       go : (D : Described) → lookup i (describedBy d) ≡ some D → Takes t D → Kept d s z e i D
-          → (f : Field) × (fieldsReferred t (lookup i (describedBy d)) ≡ replicate (countTaken (getD z i 0) t) f) × (entryOf f ≡ getD e i 0)
+          → (f : Field) × (fieldsReferred t (lookup i (describedBy d)) ≡ replicate (entriesTaken (getD z i 0) t) f) × (entryOf f ≡ getD e i 0)
       go (array f xs) o h k = (f, ap (fieldsReferred t) o ∙ sda-once t f xs k h, sym (k .entry))
       go (row l) o h k = absurd (m (k .unmarked))
 
@@ -61,7 +61,7 @@ same-fields l n x f u v =
 -- ---- `group`
 
 module _ (d s z e : List ℕ) (q g at : ℕ) (tied : Tied d s z e) (r : Refers d s q (groupAt d g)) where
-  module _ (m : getD e (getD d g 0) 0 ≡ 0 → ⊥) (n : ℕ) (c : n ≡ countTaken (getD z (getD d g 0) 0) (getD d (g + 1) 0)) where
+  module _ (m : getD e (getD d g 0) 0 ≡ 0 → ⊥) (n : ℕ) (c : n ≡ entriesTaken (getD z (getD d g 0) 0) (getD d (g + 1) 0)) where
     sda-list : (map entryOf (groupList d g) ≡ replicate (getD d (g + 2) 0 * n) (getD e (getD d g 0) 0)) × (length (groupList d g) ≡ getD d (g + 2) 0 * n)
     unfolding groupAt groupList
     sda-list =
@@ -134,7 +134,7 @@ module _ (d s z e : List ℕ) (q g at : ℕ) (tied : Tied d s z e) (r : Refers d
 -- ---- `write`
 
 module _ (d s z e : List ℕ) (i : ℕ) (tied : Tied d s z e) (k : Known d i) where
-  module _ (m : getD e i 0 ≡ 0 → ⊥) (n : ℕ) (c : n ≡ countTaken (getD z i 0) 0) where
+  module _ (m : getD e i 0 ≡ 0 → ⊥) (n : ℕ) (c : n ≡ entriesTaken (getD z i 0) 0) where
     all-list : (map entryOf (listOf d i) ≡ replicate n (getD e i 0)) × (length (listOf d i) ≡ n)
     unfolding listOf
     all-list =

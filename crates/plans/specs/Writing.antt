@@ -17,8 +17,8 @@ unfoldable pub groupList : List ℕ → (g : ℕ) → List Field
 groupList d g = groupFields (describedBy d) (groupAt d g)
 
 -- How many items a group takes once of an SDA of this size (`SdaKept`): all, or elements taken times the product of the lower extents.
-unfoldable pub countTaken : (size taken : ℕ) → ℕ
-countTaken size taken = if eqb taken 0 then size % 65536 else taken * (size / 65536)
+unfoldable pub entriesTaken : (size taken : ℕ) → ℕ
+entriesTaken size taken = if eqb taken 0 then size % 65536 else taken * (size / 65536)
 
 -- The end of the CPT at g; 0 where none stands there.
 unfoldable pub endOfCPT : List ℕ → (g : ℕ) → ℕ

@@ -7,7 +7,7 @@ ghost use lib.Seq.{sets};
 ghost use Rattle.fdoca.specs.Basics.{repeat};
 ghost use Rattle.plans.specs.Plan.{entryOf};
 ghost use Rattle.plans.specs.Tied.{listOf, rowList, Refers, RowAt, Tied, Known};
-ghost use Rattle.plans.specs.Writing.{groupAt, groupList, countTaken, endOfCPT};
+ghost use Rattle.plans.specs.Writing.{groupAt, groupList, entriesTaken, endOfCPT};
 
 // The construct type of a CPT.
 const CPT: u8 = 0x7F;
@@ -44,7 +44,7 @@ fn copies(plan: &mut [u64], from: usize, to: usize, more: usize) -> usize
 // How many items a group takes once of an SDA. The size holds its count and, 65,536 times, the product of its lower extents, by which
 // elements taken above 0 is multiplied.
 fn taken_count(size: u32, taken: u8) -> usize
-    ensures { λ r. ⌜ (r ≡ countTaken size taken) × (r < 16777216) ⌝ }
+    ensures { λ r. ⌜ (r ≡ entriesTaken size taken) × (r < 16777216) ⌝ }
 {
     if taken == 0 {
         return (size % 65536) as usize;

@@ -7,7 +7,7 @@ use borrow.Author.Needs.{needs}
 use mir.Syntax.{w8, w32, w64}
 use mir.Val.{Fits}
 use Rattle.fdoca.proofs.Tests.{tests}
-use Rattle.plans.specs.Writing.{countTaken}
+use Rattle.plans.specs.Writing.{entriesTaken}
 use Rattle.plans.proofs.taken_count.Statement.{statement}
 use Rattle.plans.proofs.taken_count.Tie as tie
 
@@ -22,7 +22,7 @@ cast-result : tie.Need-cast-result
 cast-result c = search needs
 
 returns : tie.Need-returns
-unfolding countTaken
+unfolding entriesTaken
 returns c = search (needs, tests)
 
 cast-result-2 : tie.Need-cast-result-2
@@ -32,7 +32,7 @@ mul-result : tie.Need-mul-result
 mul-result c = search taken-fits
 
 returns-2 : tie.Need-returns-2
-unfolding countTaken
+unfolding entriesTaken
 returns-2 c = search (tests, taken-small)
 
 pub taken-count-spec : {M : Type 1} → statement M
