@@ -1,11 +1,13 @@
 //! A generator of random cases, the same ones for the same seed.
 
 mod damage;
+mod edges;
 mod extremes;
 mod fitting;
 mod random;
 mod structured;
 
+pub use edges::{edges, files, limits};
 pub use extremes::full_descriptor;
 pub use random::Random;
 

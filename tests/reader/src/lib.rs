@@ -6,6 +6,7 @@
 
 mod answers;
 mod descriptor;
+mod dump;
 mod field;
 pub mod generate;
 mod refusal;
@@ -13,6 +14,7 @@ mod walk;
 
 pub use answers::Answers;
 pub use descriptor::{unfold, MAX_DESCRIPTOR, MAX_ITEMS};
+pub use dump::dump;
 pub use field::Field;
 pub use refusal::*;
 pub use walk::{walk, Note, MAX_DATA};

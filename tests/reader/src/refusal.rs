@@ -35,3 +35,4 @@ pub const NO_END: u32 = 15;
 pub const SURPLUS: u32 = 16;
 pub const NO_SUCH_ITEM: u32 = 17;
 pub const WRONG_KIND: u32 = 18;
+pub const BAD_FILE: u32 = 19;

@@ -1,19 +1,21 @@
-//! Prints random cases and the reader's answers as a table for a proof checker.
+//! Prints cases and the reader's answers as a table for a proof checker.
 //!
-//! `table SEED COUNT` writes COUNT cases to standard output, in chunks of 50, and
-//! one line to standard error: how often each number was met. The exit status is
+//! `table SEED COUNT` writes the fixed cases (short ones, files with the text that the
+//! dump program prints, long ones), then COUNT random ones to standard output, in chunks of 50,
+//! and one line to standard error: how often each number was met by a random case. The exit status is
 //! 1 unless every number from 0 to 18 was met at least ten times.
 
 use std::env;
 use std::io::{self, BufWriter, Write};
 use std::process::ExitCode;
 
-use reader::generate::{Case, Generator};
-use reader::Answers;
+use reader::generate::{edges, files, limits, Case, Generator};
+use reader::{dump, Answers};
 
 const CHUNK: usize = 50;
 const SHORTEST_RUN: usize = 16;
 const FEWEST: u64 = 10;
+const FILES: usize = 100;
 
 fn main() -> ExitCode {
     let arguments: Vec<u64> = env::args()
@@ -39,30 +41,68 @@ fn main() -> ExitCode {
 /// Prints the table and tells how often each number was met.
 fn print(seed: u64, count: usize) -> io::Result<[u64; 19]> {
     let mut out = BufWriter::new(io::stdout().lock());
+    let random: Vec<Case> = Generator::new(seed).take(count).collect();
+    print_cases(&mut out, "edges", &edges(), &mut [0; 19])?;
+    print_files(&mut out, &files(seed, FILES))?;
+    print_cases(&mut out, "limits", &limits(), &mut [0; 19])?;
     let mut met = [0; 19];
-    let mut cases = Generator::new(seed).take(count);
-    for chunk in 0..count.div_ceil(CHUNK) {
-        writeln!(out, "cases{chunk} : List Case")?;
-        writeln!(out, "unfolding bytes")?;
-        writeln!(out, "cases{chunk} =")?;
-        for (row, case) in cases.by_ref().take(CHUNK).enumerate() {
-            let answers = Answers::of(&case);
+    print_cases(&mut out, "cases", &random, &mut met)?;
+    out.flush()?;
+    Ok(met)
+}
+
+fn print_cases(
+    out: &mut impl Write,
+    name: &str,
+    cases: &[Case],
+    met: &mut [u64; 19],
+) -> io::Result<()> {
+    for (number, chunk) in cases.chunks(CHUNK).enumerate() {
+        let mut rows = Vec::new();
+        for case in chunk {
+            let answers = Answers::of(case);
             for number in answers.numbers() {
                 met[number as usize] += 1;
             }
-            let link = if row == 0 { "" } else { "∷ " };
-            writeln!(out, "    {link}{}", case_text(&case, &answers))?;
+            rows.push(case_text(case, &answers));
         }
-        writeln!(out, "    ∷ []\n")?;
+        let name = format!("{name}{number}");
+        print_rows(out, &name, "Case", &rows)?;
         writeln!(
             out,
-            "agree{chunk} : map answered cases{chunk} ≡ map expected cases{chunk}"
+            "agree-{name} : map answered {name} ≡ map expected {name}"
         )?;
-        writeln!(out, "unfolding cases{chunk} answered everything")?;
-        writeln!(out, "agree{chunk} = refl\n")?;
+        writeln!(out, "unfolding {name} answered everything")?;
+        writeln!(out, "agree-{name} = refl\n")?;
     }
-    out.flush()?;
-    Ok(met)
+    Ok(())
+}
+
+fn print_files(out: &mut impl Write, files: &[Vec<u8>]) -> io::Result<()> {
+    for (number, chunk) in files.chunks(CHUNK).enumerate() {
+        let row = |file: &Vec<u8>| {
+            let text = dump(file);
+            format!(
+                "printed ({}) ({})",
+                byte_string(file),
+                byte_string(text.as_bytes())
+            )
+        };
+        let rows: Vec<String> = chunk.iter().map(row).collect();
+        let name = format!("files{number}");
+        print_rows(out, &name, "Printed", &rows)?;
+        writeln!(out, "agree-{name} : map dumped {name} ≡ map text {name}")?;
+        writeln!(out, "unfolding {name} everything")?;
+        writeln!(out, "agree-{name} = refl\n")?;
+    }
+    Ok(())
+}
+
+/// A list of rows of some type.
+fn print_rows(out: &mut impl Write, name: &str, row: &str, rows: &[String]) -> io::Result<()> {
+    writeln!(out, "{name} : List {row}")?;
+    writeln!(out, "unfolding bytes")?;
+    writeln!(out, "{name} =\n    {}\n    ∷ []\n", rows.join("\n    ∷ "))
 }
 
 fn counts_line(met: &[u64; 19]) -> String {

@@ -4,7 +4,7 @@ use super::random::Random;
 use crate::descriptor::{CPT, ISD, RLO, SDA};
 
 /// The plain field types; whole numbers stand twice so that they come more often.
-const TYPES: [u8; 11] = [
+pub(super) const TYPES: [u8; 11] = [
     0x01, 0x02, 0x03, 0x07, 0x23, 0x24, 0x23, 0x24, 0x40, 0x47, 0x48,
 ];
 

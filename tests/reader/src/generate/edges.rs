@@ -1,0 +1,370 @@
+//! Fixed cases and files: what the papers name by a number, at that number and
+//! beside it.
+
+use super::fitting;
+use super::random::Random;
+use super::structured::{plain_parameters, sda_of, with_groups, TYPES};
+use super::{Case, Generator};
+use crate::descriptor::{CPT, ISD, MAX_DESCRIPTOR, RLO, SDA};
+use crate::unfold;
+use crate::walk::MAX_DATA;
+
+/// The longest field length that gets data, and the most items.
+const MOST_BYTES: usize = 300;
+const MOST_ITEMS: usize = 60;
+
+/// Short cases.
+pub fn edges() -> Vec<Case> {
+    let mut random = Random::new(1);
+    let mut cases: Vec<Case> = descriptors()
+        .into_iter()
+        .map(|descriptor| fitting_case(&mut random, descriptor))
+        .collect();
+    cases.extend(blocks());
+    cases
+}
+
+/// Cases around the limits of counts and sizes.
+pub fn limits() -> Vec<Case> {
+    let mut random = Random::new(1);
+    let mut cases: Vec<Case> = counts()
+        .into_iter()
+        .map(|descriptor| fitting_case(&mut random, descriptor))
+        .collect();
+    for size in [MAX_DESCRIPTOR - 1, MAX_DESCRIPTOR, MAX_DESCRIPTOR + 1] {
+        cases.push(case(&vec![0; size], &[], 4, 0));
+    }
+    for size in [MAX_DATA - 1, MAX_DATA, MAX_DATA + 1] {
+        cases.push(case(&[], &vec![0; size], 4, 0));
+    }
+    cases
+}
+
+/// A descriptor with data that fits, where that is short.
+fn fitting_case(random: &mut Random, descriptor: Vec<u8>) -> Case {
+    let mut fields = unfold(&descriptor).unwrap_or_default();
+    let is_long = fields.iter().any(|field| field.field_length() > MOST_BYTES);
+    if is_long || fields.len() > MOST_ITEMS {
+        fields.clear();
+    }
+    Case {
+        list_before: vec![7; 2 + 2 * fields.len()],
+        item: 0,
+        data: fitting::data(random, &fields),
+        descriptor,
+    }
+}
+
+fn descriptors() -> Vec<Vec<u8>> {
+    [
+        type_codes(),
+        field_lengths(),
+        parameters(),
+        constructs(),
+        triplet_lengths(),
+        isds(),
+        ids(),
+        groups(),
+        extents(),
+    ]
+    .concat()
+}
+
+/// Every type code, as a field of four bytes.
+fn type_codes() -> Vec<Vec<u8>> {
+    (0..=255)
+        .map(|code| sda_of(1, code, plain_parameters(0, 4), &[]))
+        .collect()
+}
+
+/// The field lengths that some rule names, and those beside them.
+fn field_lengths() -> Vec<Vec<u8>> {
+    let lengths = [
+        0, 1, 2, 3, 4, 5, 6, 7, 8, 9, 10, 12, 15, 16, 17, 254, 255, 256, 32_766, 32_767, 32_768,
+        65_535,
+    ];
+    plain_types()
+        .flat_map(|code| lengths.map(|length| sda_of(1, code, plain_parameters(0, length), &[])))
+        .collect()
+}
+
+/// Bytes 0 to 5 of the type parameters, each at 1 and at 2.
+fn parameters() -> Vec<Vec<u8>> {
+    let changed = |code: u8, byte: usize, value: u8| {
+        let mut parameters = plain_parameters(0, 4);
+        parameters[byte] = value;
+        sda_of(1, code, parameters, &[])
+    };
+    plain_types()
+        .flat_map(|code| (0..6).map(move |byte| (code, byte)))
+        .flat_map(|(code, byte)| [1, 2].map(|value| changed(code, byte, value)))
+        .collect()
+}
+
+fn plain_types() -> impl Iterator<Item = u8> {
+    let mut types = TYPES.to_vec();
+    types.sort_unstable();
+    types.dedup();
+    types.into_iter()
+}
+
+/// Construct types around the carried ones, behind an SDA.
+fn constructs() -> Vec<Vec<u8>> {
+    (0x6E..=0x81)
+        .map(|construct| [sda(1, &[]), with_groups(construct, 2, &[[1, 0, 1]; 3])].concat())
+        .collect()
+}
+
+/// Every LENGTH of each construct up to 21, as the last triplet and before another.
+fn triplet_lengths() -> Vec<Vec<u8>> {
+    let contents: [(u8, [u8; 19]); 4] = [
+        (
+            SDA,
+            [2, 1, 0, 0, 0, 0, 0, 0, 0, 1, 0, 1, 0, 1, 0, 1, 0, 1, 0],
+        ),
+        (
+            RLO,
+            [2, 1, 0, 1, 1, 0, 1, 1, 0, 1, 1, 0, 1, 1, 0, 1, 1, 0, 1],
+        ),
+        (
+            CPT,
+            [0, 1, 0, 1, 1, 0, 1, 1, 0, 1, 1, 0, 1, 1, 0, 1, 1, 0, 1],
+        ),
+        (
+            ISD,
+            [0, 1, 0, 1, 0, 0, 0, 0, 0, 0, 0, 0, 0, 0, 0, 0, 0, 0, 0],
+        ),
+    ];
+    let mut descriptors = Vec::new();
+    for (construct, content) in contents {
+        let before = match construct {
+            ISD => Vec::new(),
+            CPT => [sda(1, &[]), with_groups(RLO, 2, &[[1, 0, 1]])].concat(),
+            _ => sda(1, &[]),
+        };
+        for length in 0..=21 {
+            let mut triplet = vec![length as u8, construct];
+            triplet.extend(content);
+            triplet.truncate(length.max(2));
+            descriptors.push([&before[..], &triplet].concat());
+            descriptors.push([&before[..], &triplet, &sda(9, &[])].concat());
+        }
+    }
+    descriptors
+}
+
+/// An ISD's contents: id, subset and version; and its place.
+fn isds() -> Vec<Vec<u8>> {
+    let mut descriptors = Vec::new();
+    for id in [0, 1, 2] {
+        descriptors.push([vec![5, ISD, id, 0, 0], sda(1, &[])].concat());
+    }
+    for subset in [
+        0x0000, 0x0001, 0x0002, 0x00FF, 0x0100, 0x0101, 0x0102, 0x0200, 0x0201, 0xFF00_u16,
+    ] {
+        let [high, low] = subset.to_be_bytes();
+        descriptors.push([vec![5, ISD, 0, high, low], sda(1, &[])].concat());
+        for version in [0, 1, 2, 3] {
+            descriptors.push([vec![6, ISD, 0, high, low, version], sda(1, &[])].concat());
+        }
+    }
+    let isd = vec![5, ISD, 0, 1, 0];
+    descriptors.extend([
+        isd.clone(),
+        [isd.clone(), isd.clone()].concat(),
+        [sda(1, &[]), isd.clone()].concat(),
+        [sda(1, &[]), vec![5, ISD, 1, 1, 1]].concat(),
+        [sda(1, &[]), with_groups(RLO, 2, &[[1, 0, 1]]), isd.clone()].concat(),
+        [isd, with_groups(CPT, 0, &[[1, 0, 1]])].concat(),
+    ]);
+    descriptors
+}
+
+/// Ids 0, 1, 2 and 255, taken ones, and what CPTs follow.
+fn ids() -> Vec<Vec<u8>> {
+    let row = |id| with_groups(RLO, id, &[[1, 0, 1]]);
+    let more = |id| with_groups(CPT, id, &[[1, 0, 2]]);
+    let mut descriptors = Vec::new();
+    for id in [0, 1, 2, 255] {
+        descriptors.extend([
+            sda(id, &[]),
+            [sda(1, &[]), sda(id, &[])].concat(),
+            [sda(1, &[]), row(id)].concat(),
+            [sda(1, &[]), row(id), row(id)].concat(),
+            [sda(1, &[]), row(2), sda(id, &[])].concat(),
+            [sda(1, &[]), row(2), more(id)].concat(),
+            [sda(1, &[]), row(2), more(0), more(id)].concat(),
+            [sda(1, &[]), more(id)].concat(),
+            [sda(1, &[]), row(2), sda(3, &[]), more(id)].concat(),
+        ]);
+    }
+    descriptors
+}
+
+/// References, elements taken and factors, over SDAs of each dimension and over RLOs.
+fn groups() -> Vec<Vec<u8>> {
+    let lower = [
+        sda(1, &[]),
+        sda(2, &[3]),
+        sda(3, &[2, 3]),
+        sda(4, &[2, 1, 3]),
+        with_groups(RLO, 5, &[[2, 0, 1], [1, 0, 1]]),
+    ]
+    .concat();
+    let mut descriptors = Vec::new();
+    for reference in 0..=7 {
+        for taken in [0, 1, 2, 4] {
+            for factor in [0, 1, 2] {
+                let group = [reference, taken, factor];
+                descriptors.push([&lower[..], &with_groups(RLO, 6, &[group])].concat());
+            }
+        }
+    }
+    for group in [
+        [0, 0, 0],
+        [9, 1, 0],
+        [5, 1, 0],
+        [1, 1, 0],
+        [5, 1, 255],
+        [2, 255, 255],
+    ] {
+        let row = with_groups(RLO, 6, &[[1, 0, 1], group]);
+        let more = with_groups(CPT, 0, &[[1, 0, 1], group]);
+        descriptors.push([&lower[..], &row].concat());
+        descriptors.push([&lower[..], &with_groups(RLO, 6, &[[1, 0, 1]]), &more].concat());
+    }
+    descriptors
+}
+
+/// Extents of 0 and of either byte, and far too many items.
+fn extents() -> Vec<Vec<u8>> {
+    let extents: [&[u16]; 12] = [
+        &[0],
+        &[1],
+        &[2],
+        &[256],
+        &[0, 1],
+        &[1, 0],
+        &[0, 1, 1],
+        &[1, 0, 1],
+        &[1, 1, 0],
+        &[4097],
+        &[0x8000],
+        &[0xFFFF],
+    ];
+    extents
+        .map(|extents| [sda(1, &[]), sda(2, extents)].concat())
+        .to_vec()
+}
+
+/// Counts around 4,096: of an SDA, of an RLO, and of an RLO with its CPT.
+fn counts() -> Vec<Vec<u8>> {
+    let extents: [&[u16]; 7] = [
+        &[4095],
+        &[4096],
+        &[4097],
+        &[64, 64],
+        &[17, 241],
+        &[16, 16, 16],
+        &[16, 16, 17],
+    ];
+    let mut descriptors = extents
+        .map(|extents| [sda(1, &[]), sda(2, extents)].concat())
+        .to_vec();
+    for extent in [4094, 4095, 4096] {
+        let group = [[2, 0, 1], [1, 0, 1]];
+        let lower = [sda(1, &[]), sda(2, &[extent])].concat();
+        descriptors.push([&lower[..], &with_groups(RLO, 3, &group)].concat());
+        let row = with_groups(RLO, 3, &group[..1]);
+        descriptors.push([&lower[..], &row, &with_groups(CPT, 0, &group[1..])].concat());
+    }
+    descriptors
+}
+
+/// An SDA of fields without bytes.
+fn sda(id: u8, extents: &[u16]) -> Vec<u8> {
+    sda_of(id, 0x01, plain_parameters(0, 0), extents)
+}
+
+fn case(descriptor: &[u8], data: &[u8], list: usize, item: u32) -> Case {
+    Case {
+        descriptor: descriptor.to_vec(),
+        data: data.to_vec(),
+        list_before: vec![7; list],
+        item,
+    }
+}
+
+/// A block cut at each byte, lists around the needed size, item numbers around the
+/// count, and whole numbers asked of every type.
+fn blocks() -> Vec<Case> {
+    let mut cases = Vec::new();
+    let pair = [
+        sda_of(1, 0x81, plain_parameters(0, 1), &[]),
+        sda_of(2, 0xA3, plain_parameters(0, 2), &[]),
+        with_groups(RLO, 3, &[[1, 0, 1], [2, 0, 1]]),
+    ]
+    .concat();
+    let data = [0, 9, 0x7F, 0x80, 0];
+    for length in 0..=data.len() {
+        cases.push(case(&pair, &data[..length], 6, 1));
+    }
+    for list in 0..=8 {
+        cases.push(case(&pair, &data, list, 0));
+    }
+    for item in 0..=3 {
+        cases.push(case(&pair, &data, 6, item));
+        cases.push(case(&pair, &[0, 9, 0x80], 6, item));
+        cases.push(case(&pair, &[0, 9, 0x80, 0], 6, item));
+    }
+    for code in plain_types() {
+        for bytes in [[0x80, 0, 0, 0], [0, 0, 0, 0x80], [0xFF; 4]] {
+            let last = sda_of(2, code, plain_parameters(0, 4), &[]);
+            let row = with_groups(RLO, 3, &[[1, 0, 1], [2, 0, 1]]);
+            let descriptor = [sda_of(1, 0x01, plain_parameters(0, 1), &[]), last, row].concat();
+            cases.push(case(&descriptor, &[&[5][..], &bytes].concat(), 6, 1));
+        }
+    }
+    cases
+}
+
+/// Files for the dump program: of random blocks, and around their sizes.
+pub fn files(seed: u64, count: usize) -> Vec<Vec<u8>> {
+    let is_small = |case: &Case| case.descriptor.len() + case.data.len() < 2 * super::SMALL_BYTES;
+    let mut files: Vec<Vec<u8>> = Generator::new(seed)
+        .filter(is_small)
+        .take(count)
+        .map(|case| file(&case.descriptor, &case.data))
+        .collect();
+    // numbers of one to four digits
+    for length in [9, 10, 11, 99, 100, 1_000] {
+        let descriptor = sda_of(1, 0x01, plain_parameters(0, length), &[2]);
+        files.push(file(&descriptor, &vec![0; 2 * usize::from(length)]));
+    }
+    files.push(file(
+        &sda_of(1, 0x81, plain_parameters(0, 0), &[12]),
+        &[0x80; 12],
+    ));
+    // sizes that the file does not fit, or that are over their limits
+    files.extend((0..=9).map(|length| vec![0; length]));
+    for size in [
+        [0, 0, 0x10, 0],
+        [0, 0, 0x10, 1],
+        [0, 0, 0x80, 0],
+        [0, 0, 0x80, 1],
+        [1, 0, 0, 0],
+        [0, 1, 0, 0],
+    ] {
+        files.push([size, [0; 4]].concat());
+        files.push([[0; 4], size].concat());
+    }
+    let good = file(&sda(1, &[]), &[]);
+    files.push([&good[..], &[0]].concat());
+    files.push(good[..good.len() - 1].to_vec());
+    files
+}
+
+fn file(descriptor: &[u8], data: &[u8]) -> Vec<u8> {
+    let size = |bytes: &[u8]| (bytes.len() as u32).to_be_bytes();
+    [&size(descriptor)[..], &size(data), descriptor, data].concat()
+}
