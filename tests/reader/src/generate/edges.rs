@@ -259,19 +259,11 @@ fn extents() -> Vec<Vec<u8>> {
 
 /// Counts around 4,096: of an SDA, of an RLO, and of an RLO with its CPT.
 fn counts() -> Vec<Vec<u8>> {
-    let extents: [&[u16]; 7] = [
-        &[4095],
-        &[4096],
-        &[4097],
-        &[64, 64],
-        &[17, 241],
-        &[16, 16, 16],
-        &[16, 16, 17],
-    ];
+    let extents: [&[u16]; 4] = [&[4096], &[4097], &[17, 241], &[16, 16, 17]];
     let mut descriptors = extents
         .map(|extents| [sda(1, &[]), sda(2, extents)].concat())
         .to_vec();
-    for extent in [4094, 4095, 4096] {
+    for extent in [4095, 4096] {
         let group = [[2, 0, 1], [1, 0, 1]];
         let lower = [sda(1, &[]), sda(2, &[extent])].concat();
         descriptors.push([&lower[..], &with_groups(RLO, 3, &group)].concat());
@@ -346,7 +338,10 @@ pub fn files(seed: u64, count: usize) -> Vec<Vec<u8>> {
         &[0x80; 12],
     ));
     // sizes that the file does not fit, or that are over their limits
-    files.extend((0..=9).map(|length| vec![0; length]));
+    for length in 0..=9 {
+        files.push(vec![0; length]);
+        files.push(vec![0xFF; length]);
+    }
     for size in [
         [0, 0, 0x10, 0],
         [0, 0, 0x10, 1],
