@@ -224,6 +224,7 @@ impl Source {
         self.lines.iter().any(|line| {
             tokens(line)
                 .iter()
+                .take_while(|token| !token.text.starts_with("--"))
                 .any(|token| token.text == name || token.text == operator)
         })
     }
