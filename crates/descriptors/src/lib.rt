@@ -8,6 +8,7 @@ ghost use Rattle.fdoca.specs.Triplet.{triplets};
 ghost use Rattle.fdoca.specs.Check.{check};
 ghost use Rattle.fdoca.specs.Calls.{checked};
 ghost use Rattle.field_types.specs.Rows.{RowTable};
+ghost use Rattle.triplets.specs.Judged.{Agreeing};
 ghost use Rattle.descriptors.specs.Holds.{MakesSame, Held, ClosedRow, SteppedSDA, SteppedRLO, SteppedCPT, Advanced, Bare, Examination};
 use fdoca::Checked;
 
@@ -122,6 +123,7 @@ fn sda_step(
 }
 
 fn rlo_step(t: &[u8], p: usize, starts: &[u16; 256], sizes: &[u32; 256]) -> Step
+    requires { ⌜ Agreeing (now starts) (now sizes) ⌝ }
     ensures { λ r. ⌜ SteppedRLO (now (t .entry)) p (now (starts .entry)) (now (sizes .entry)) r ⌝ }
 {
     let judged = triplets::judge_rlo(t, starts, sizes);
@@ -138,7 +140,7 @@ fn rlo_step(t: &[u8], p: usize, starts: &[u16; 256], sizes: &[u32; 256]) -> Step
 }
 
 fn cpt_step(t: &[u8], starts: &[u16; 256], sizes: &[u32; 256], x: Step) -> Step
-    requires { ⌜ x .count ≤ 4096 ⌝ }
+    requires { ⌜ Agreeing (now starts) (now sizes) × (x .count ≤ 4096) ⌝ }
     ensures { λ r. ⌜ SteppedCPT (now (t .entry)) (now (starts .entry)) (now (sizes .entry)) x r ⌝ }
 {
     if !x.row {

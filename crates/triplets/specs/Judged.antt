@@ -50,6 +50,11 @@ KeptAs start size (some x) = Entered start size x
 abbrev pub Agrees : (s z : List ℕ) → List (ℕ × Entry) → Type 0
 Agrees s z es = (i : ℕ) → i < 256 → KeptAs (getD s i 0) (getD z i 0) (lookup i es)
 
+-- They stand for some described ids.
+pub record Agreeing (s z : List ℕ) : Type 0 where
+  pub described-ids : List (ℕ × Entry)
+  pub agrees : Agrees s z described-ids
+
 abbrev pub groupOf : ℕ → ℕ → ℕ → Group
 groupOf ref taken factor = record { ref = ref; taken = taken; factor = factor }
 

@@ -10,7 +10,7 @@ ghost use Rattle.fdoca.specs.Check.{goodLengthSDA, goodSDA, goodLengthRow, good
 ghost use Rattle.field_types.specs.Rows.{RowTable};
 ghost use Rattle.field_types.specs.Parameters.{layoutNumber, layoutIf};
 ghost use Rattle.plans.specs.Tied.{lowerOf};
-ghost use Rattle.triplets.specs.Judged.{extentOr1, summed, JudgedSDA, AddedGroup, AddedGroups, JudgedRLO, JudgedCPT, JudgedISD};
+ghost use Rattle.triplets.specs.Judged.{extentOr1, Agreeing, summed, JudgedSDA, AddedGroup, AddedGroups, JudgedRLO, JudgedCPT, JudgedISD};
 ghost use Rattle.triplets.specs.Kept.{EntryOf, PutSDA};
 
 // The largest count of items.
@@ -228,6 +228,7 @@ fn add_groups(t: &[u8], starts: &[u16; 256], sizes: &[u32; 256], sum: usize) -> 
 
 // An RLO's count, or the number of its refusal.
 pub fn judge_rlo(t: &[u8], starts: &[u16; 256], sizes: &[u32; 256]) -> Sum
+    requires { ⌜ Agreeing (now starts) (now sizes) ⌝ }
     ensures { λ r. ⌜ JudgedRLO (now (t .entry)) (now (starts .entry)) (now (sizes .entry)) r ⌝ }
 {
     if !row_length(t) {
@@ -245,7 +246,7 @@ pub fn judge_rlo(t: &[u8], starts: &[u16; 256], sizes: &[u32; 256]) -> Sum
 
 // The count of a row of `sum` items with those of a CPT, or the number of its refusal.
 pub fn judge_cpt(t: &[u8], starts: &[u16; 256], sizes: &[u32; 256], sum: usize) -> Sum
-    requires { ⌜ sum ≤ 4096 ⌝ }
+    requires { ⌜ Agreeing (now starts) (now sizes) × (sum ≤ 4096) ⌝ }
     ensures { λ r. ⌜ JudgedCPT (now (t .entry)) (now (starts .entry)) (now (sizes .entry)) sum r ⌝ }
 {
     if !row_length(t) {

@@ -1,4 +1,5 @@
-use Rattle.descriptors.proofs.Advancing.{over-cpt, over-sda, over-rlo, over-isd, over-other}
+use mathlib.Core.Path.{refl}
+use Rattle.descriptors.proofs.Advancing.{held-agree, tables-agree, over-cpt, over-sda, over-rlo, over-isd, over-other}
 use Rattle.descriptors.proofs.Moving.{torn-short, torn-past}
 use borrow.Author.Needs.{needs}
 use Rattle.descriptors.proofs.advance.Statement.{statement}
@@ -41,7 +42,7 @@ shared-slice-read-kind : tie.Need-shared-slice-read-kind
 shared-slice-read-kind c = search needs
 
 cpt-step-requires : tie.Need-cpt-step-requires
-cpt-step-requires c κs = search needs
+cpt-step-requires c κs = search (needs, held-agree)
 
 returns-3 : tie.Need-returns-3
 returns-3 c = search (over-cpt)
@@ -56,7 +57,11 @@ returns-4 : tie.Need-returns-4
 returns-4 c = search (over-sda)
 
 rlo-step-requires : tie.Need-rlo-step-requires
-rlo-step-requires c κs = search needs
+rlo-step-requires c κs =
+    let b = c .before .before .before .before .before .before .before .before in
+    let a = b .before .before .before in
+    let pre = a .before .before .before .before .before .pre in
+    tables-agree _ _ _ _ _ _ _ _ (pre .1) (pre .2) (a .before .before .wide .ensures .0) (a .before .if1 .left) (a .if2 .left) refl _ _ _ (c .before .before .before .before .close .ensures) (b .if3 .left)
 
 returns-5 : tie.Need-returns-5
 returns-5 c = search (over-rlo)
