@@ -9,7 +9,7 @@ use mathlib.Core.List.{List, [], _∷_, _++_}
 use lib.Dec.{leb, ltb, eqb}
 use lib.ListN.{length, take, drop, length-append, length-drop, take-append-drop}
 use lib.Seq.{take-at, length-take-le}
-use borrow.Author.Tests.{ltb-false, leb-false, eqb-true, eqb-false, lt-ltb, le-ltb, le-leb, lt-leb, eq-eqb, ne-eqb}
+use borrow.Author.Tests.{ltb-true, ltb-false, leb-false, eqb-true, eqb-false, lt-ltb, le-ltb, le-leb, lt-leb, eq-eqb, ne-eqb}
 use Rattle.fdoca.specs.Basics.{if_then_else_, big}
 use Rattle.fdoca.specs.FieldType.{FieldType, fixedBytes, variableBytes, terminatedBytes, shortBytes, integer, reversedInteger, hexFloat, reversedFloat, binaryFloat, LengthField, signedTwo, unsignedOne, fixed, ruleOf}
 use Rattle.fdoca.specs.Item.{Field, Measured, refused, item, Space, unbounded, limited, reserved, space, width, isNegative, isOver, unused, indicated, beforeZero, measureFixed, measureBody, measureCounted, measureTerminated, measureValue, measureNullable, measureItem, measure}
@@ -52,6 +52,20 @@ space-limit mode F h k = simp (ne-eqb F 0 h, ne-eqb mode 0 k)
 pub space-full : (mode F : ℕ) → F ≢ 0 → mode ≡ 0 → space mode F ≡ reserved F
 unfolding space
 space-full mode F h e = simp (ne-eqb F 0 h, eq-eqb mode 0 e)
+
+-- L is over F above 0
+pub over : (mode F L : ℕ) → F ≢ 0 → F < L → isOver (space mode F) L ≡ true
+unfolding space
+over mode F L h k = rw (ne-eqb F 0 h) (by-test (λ sp. isOver sp L ≡ true) (eqb mode 0) (λ t. lt-ltb F L k) (λ t. lt-ltb F L k))
+
+pub over-of : (mode F L : ℕ) → isOver (space mode F) L ≡ true → (F ≢ 0) × (F < L)
+unfolding space
+over-of mode F L = go (eqb F 0) (eqb mode 0) refl
+  where
+    go : (a b : Bool) → eqb F 0 ≡ a → isOver (if a then unbounded else if b then reserved F else limited F) L ≡ true → (F ≢ 0) × (F < L)
+    go true b t h = absurd (let z : _≡_ {A = ℕ} 0 1 = cc in let w : ⊥ = omega arith in w)
+    go false true t h = (eqb-false F 0 t, ltb-true F L h)
+    go false false t h = (eqb-false F 0 t, ltb-true F L h)
 
 -- what follows a value is the space that it leaves
 left-over : {mode F n : ℕ} {r : List ℕ} → Reserved mode F n r → (isOver (space mode F) n ≡ false) × (unused (space mode F) n ≡ length r)

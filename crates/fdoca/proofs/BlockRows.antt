@@ -21,7 +21,6 @@ use Rattle.fdoca.specs.Cover.{noteOfParts, notesOf}
 use Rattle.fdoca.specs.Reasons.{OfItem, StartsAt, OfItems, surplus, Earlier, here, further, First}
 use Rattle.fdoca.proofs.Table.{is-there}
 use Rattle.fdoca.proofs.Results.{IfOk, holds, bind-all, itself, ok-of, ok-bind, ok-reject}
-use Rattle.fdoca.proofs.Refusals.{refused-iff}
 use Rattle.fdoca.proofs.Cover.{joined, cut-append, walk-covers}
 use Rattle.fdoca.proofs.Stops.{StopsAt, Stopped, at-item, walk-stops}
 use Rattle.fdoca.proofs.Blocks.{CutBlock, cut-block, cut-parts}
@@ -166,7 +165,7 @@ module _ (fs : List Field) (s : List ℕ) (g : AllGood fs) where
     earliest : Earliest (OfItem (h .field) (h .good .rest)) m
     earliest =
         let k : GoodField (h .field) = field-good start g in
-        item-first-reason (h .field) (k .typed) (k .mode-known) (h .good .rest) m (refused-iff (h .field) m (h .good .rest) .1 (h .reason))
+        item-first-reason (h .field) (k .typed) (k .mode-known) (h .good .rest) m (h .reason)
 
     abbrev turn : List ℕ
     turn = 5 ∷ length (h .before) ∷ earliest .step ∷ []

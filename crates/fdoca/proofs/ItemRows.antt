@@ -20,8 +20,7 @@ use Rattle.fdoca.specs.Reasons.{OneOf, here, there, HasType, Behind, no-
 use Rattle.fdoca.proofs.Table.{looked-up}
 use Rattle.fdoca.proofs.TypeRows.{elem-in}
 use Rattle.fdoca.proofs.Tests.{by-le, by-eq}
-use Rattle.fdoca.proofs.Account.{big-one, big-two, fixed-layout, space-none, space-limit, space-full}
-use Rattle.fdoca.proofs.Refusals.{over, over-of}
+use Rattle.fdoca.proofs.Account.{big-one, big-two, fixed-layout, space-none, space-limit, space-full, over, over-of}
 use Rattle.fdoca.proofs.ItemTests.{before-zero-within, sent, CutOff, Against, short, short-L, negative, over-F, short-body, no-zero, endless, Earliest, Judged, judged-map, judged-value}
 
 -- THE TYPE CODES.

@@ -6,7 +6,6 @@ pub mod Examples
 pub mod Outcomes
 pub mod Within
 pub mod Account
-pub mod Refusals
 pub mod Cover
 pub mod Stops
 pub mod Blocks

@@ -11,10 +11,9 @@ use lib.ListN.{length, drop}
 use borrow.Author.Tests.{ltb-true, lt-ltb}
 use Rattle.fdoca.specs.Basics.{Result, refuse, ok, _>>=_, _>>_, reject}
 use Rattle.fdoca.specs.Item.{Field, Measured, refused, item, measure}
-use Rattle.fdoca.specs.FieldType.{FieldType}
-use Rattle.fdoca.specs.Account.{NoValue, short, short-two, negative, over-two, body-two, short-one, over-one, body-one, no-end, no-end-yet, short-space, endless, NoItem, plain, no-indicator, behind}
+use Rattle.fdoca.specs.FieldType.{ruleOf, nullable}
 use Rattle.fdoca.specs.Walk.{Note, itemLength, Cut, noteOf, with, cutFrom, walk}
-use Rattle.fdoca.proofs.Refusals.{refused-iff}
+use Rattle.fdoca.proofs.Outcomes.{of-item}
 use Rattle.fdoca.proofs.Cover.{cut-append}
 
 -- The cut of fs from s at p stops with the number n at the place q: the items of the fields before are good, and the next bytes are no item.
@@ -26,7 +25,7 @@ pub record StopsAt (p : ℕ) (fs : List Field) (s : List ℕ) (n q : ℕ) : Type
   pub good : Cut
   pub cut : cutFrom p before s ≡ ok good
   pub place : q ≡ good .end
-  pub reason : NoItem field n (good .rest)
+  pub reason : measure field (good .rest) ≡ refused n
 
 abbrev Stops : ℕ → List Field → List ℕ → Result Cut → Type 0
 Stops p fs s (refuse n q) = StopsAt p fs s n q
@@ -43,7 +42,7 @@ stops-first p f fs s n e =
       good = record { notes = []; end = p; rest = s };
       cut = refl;
       place = refl;
-      reason = refused-iff f n s .0 e;
+      reason = e;
     }
 
 stops-later : (p : ℕ) (f : Field) (fs : List Field) (s : List ℕ) (i : Note) (n q : ℕ) → noteOf f p (measure f s) ≡ ok i
@@ -82,8 +81,7 @@ stops p (f ∷ fs) s = go (measure f s) refl (λ q t. stops q fs t)
 stops-back : (p : ℕ) (fs : List Field) (s : List ℕ) (n q : ℕ) → StopsAt p fs s n q → cutFrom p fs s ≡ refuse n q
 unfolding cutFrom noteOf
 stops-back p fs s n q h =
-    let e : measure (h .field) (h .good .rest) ≡ refused n = refused-iff (h .field) n (h .good .rest) .1 (h .reason) in
-    rw (h .fields, cut-append p (h .before) (h .field ∷ h .after) s, h .cut, e, h .place)
+    rw (h .fields, cut-append p (h .before) (h .field ∷ h .after) s, h .cut, h .reason, h .place)
 
 -- Why the walk stops: at an item, or since bytes are left after the last field.
 pub data Stopped (fs : List Field) (s : List ℕ) : ℕ → ℕ → Type 0 where
@@ -121,28 +119,19 @@ module _ (fs : List Field) (s : List ℕ) (n q : ℕ) where
   walk-stops = (λ e. walk-stopped e, λ h. stopped-walk fs s n q h)
 
 -- a refusal of the walk has a number from 13 on
-value-number : {mode F n : ℕ} {T : FieldType} {s : List ℕ} → NoValue mode F T n s → 13 ≤ n
-value-number (short t h) = omega arith
-value-number (short-two h) = omega arith
-value-number (negative h) = omega arith
-value-number (over-two h k) = omega arith
-value-number (body-two h k) = omega arith
-value-number short-one = omega arith
-value-number (over-one h k) = omega arith
-value-number (body-one h) = omega arith
-value-number (no-end e h) = omega arith
-value-number (no-end-yet h k l m) = omega arith
-value-number (short-space h k l) = omega arith
-value-number (endless h k l) = omega arith
+abbrev From13 : Measured → Type 0
+From13 (refused n) = 13 ≤ n
+From13 (item z p v r) = Unit {0}
 
-item-number : {f : Field} {n : ℕ} {s : List ℕ} → NoItem f n s → 13 ≤ n
-item-number (plain h w) = value-number w
-item-number (no-indicator h) = omega arith
-item-number (behind h k w) = value-number w
+item-number : (f : Field) (s : List ℕ) → From13 (measure f s)
+unfolding measure
+item-number f s =
+    of-item s From13 (record { short = omega arith; count = omega arith; no-end = omega arith; found = λ z p v r h. tt })
+    (nullable (f .code)) (ruleOf (f .type) .layout) (f .mode) (f .fieldLength)
 
 pub walk-number : (fs : List Field) (s : List ℕ) (n q : ℕ) → walk fs s ≡ refuse n q → 13 ≤ n
 walk-number fs s n q e = go (walk-stopped fs s n q e)
   where
     go : {n q : ℕ} → Stopped fs s n q → 13 ≤ n
-    go (at-item h) = item-number (h .reason)
+    go (at-item h) = rw (h .reason) at (item-number (h .field) (h .good .rest))
     go (surplus c h k) = omega arith
