@@ -89,7 +89,7 @@ abbrev pub stateOf : Result Note → State
 stateOf (refuse n p) = record { number = n; place = p; null = false; code = 0; length = 0 }
 stateOf (ok i) = record { number = 0; place = 0; null = i .isNull; code = i .field .code; length = i .value }
 
--- The lent part's bytes: none on a null or a refusal. Where an empty part lies is free.
+-- The lent part's bytes: none on a null or a refusal. Where an empty part lies 01 leaves free, and the contract of the call says it.
 abbrev pub lent : List ℕ → Result Note → List ℕ
 lent s (refuse n p) = []
 lent s (ok i) = valueOf s i
