@@ -14,7 +14,7 @@ use Rattle.fdoca.specs.Basics.{Result, refuse, ok, _>>=_, _>>_, reject}
 use Rattle.fdoca.specs.Triplet.{triplets}
 use Rattle.fdoca.specs.Triplet as T
 use Rattle.fdoca.specs.Check.{Entry, State, closed, maxDescriptor, checkTriplet, checkTriplets, begin, lastCount, check}
-use Rattle.fdoca.specs.Reasons.{place, LENGTH, Whole, There, Is, Describes, below-2, past-the-end, OfTriplet, torn, OfDescriptor, oversize, nothing-described, Earlier, here, further, First}
+use Rattle.fdoca.specs.Reasons.{place, LENGTH, NotTorn, There, Is, Describes, below-2, past-the-end, OfTriplet, torn, OfDescriptor, oversize, nothing-described, Earlier, here, further, First}
 use Rattle.fdoca.specs.Reasons as R
 use Rattle.fdoca.specs.Between.{tripletsAt}
 use Rattle.fdoca.proofs.Tests.{by-order}
@@ -63,7 +63,7 @@ module _ (d : List ℕ) (j : ℕ) (st : State) (b : Before d j st) (n : NoneBefo
     run-on x (refused e r c) next = stopped here-is e r c n
     run-on x (passed {a = u} f k) next = next u k (none-more n f)
 
-    run-next : Whole d j → ((u : State) → Before d (suc j) u → NoneBefore d (suc j) → Ran d (checkTriplets u (tripletsAt d (place d (suc j)))))
+    run-next : NotTorn d j → ((u : State) → Before d (suc j) u → NoneBefore d (suc j) → Ran d (checkTriplets u (tripletsAt d (place d (suc j)))))
         → Ran d (checkTriplets st (tripletsAt d (place d j)))
     unfolding checkTriplets
     run-next w next =
@@ -71,7 +71,7 @@ module _ (d : List ℕ) (j : ℕ) (st : State) (b : Before d j st) (n : NoneBefo
         (run-on (checkTriplet st (T.triplet (place d j) (bytesOf d j))) (judge-triplet d j here-is w st b) next)
 
     run-by : (x y : Bool) → ltb (LENGTH d j) 2 ≡ x → ltb (length d) (place d j + LENGTH d j) ≡ y
-        → (Whole d j → (u : State) → Before d (suc j) u → NoneBefore d (suc j) → Ran d (checkTriplets u (tripletsAt d (place d (suc j)))))
+        → (NotTorn d j → (u : State) → Before d (suc j) u → NoneBefore d (suc j) → Ran d (checkTriplets u (tripletsAt d (place d (suc j)))))
         → Ran d (checkTriplets st (tripletsAt d (place d j)))
     run-by true y e f next =
         let h = ltb-true (LENGTH d j) 2 e in
@@ -80,7 +80,7 @@ module _ (d : List ℕ) (j : ℕ) (st : State) (b : Before d j st) (n : NoneBefo
         let h = ltb-true (length d) (place d j + LENGTH d j) f in
         run-torn (past-the-end h) (triplets-past d (place d j) left (ltb-false (LENGTH d j) 2 e) h)
     run-by false false e f next =
-        let w : Whole d j = record { long = ltb-false (LENGTH d j) 2 e; fits = ltb-false (length d) (place d j + LENGTH d j) f } in
+        let w : NotTorn d j = record { long = ltb-false (LENGTH d j) 2 e; fits = ltb-false (length d) (place d j + LENGTH d j) f } in
         run-next w (next w)
 
 run : (d : List ℕ) (fuel j : ℕ) (st : State) → Before d j st → NoneBefore d j → place d j ≤ length d → length d - place d j ≤ fuel

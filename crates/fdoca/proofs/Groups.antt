@@ -14,7 +14,7 @@ use Rattle.fdoca.specs.Basics.{lookup, product, Result, ok, _>>=_, _>>_,
 use Rattle.fdoca.specs.Triplet.{threes}
 use Rattle.fdoca.specs.Check as C
 use Rattle.fdoca.specs.Check.{Entry, countOf, countTaken, maxItems, addGroup, addGroups}
-use Rattle.fdoca.specs.Reasons.{place, LENGTH, Whole, sda, rlo, Is, InRow, reference, taken, factor, Refers, extent, Lower, Counts, single, array, row, Adds, kept, replaced, UpTo, group, missing, NotCarried, repetition-0, over-RLO, over-single, of-row, OfTriplet, missing-reference, not-carried, too-many-up-to}
+use Rattle.fdoca.specs.Reasons.{place, LENGTH, NotTorn, sda, rlo, Is, InRow, reference, taken, factor, Refers, extent, Lower, Counts, single, array, row, Adds, kept, replaced, UpTo, group, missing, NotCarried, repetition-0, over-RLO, over-single, of-row, OfTriplet, missing-reference, not-carried, too-many-up-to}
 use Rattle.fdoca.proofs.TripletBytes.{bytesOf, groupOf, groups-from, groups-end}
 use Rattle.fdoca.proofs.TripletTests.{Tells, clash}
 use Rattle.fdoca.proofs.Counting.{Unique, up-in-row, one-row, up-to-same, lower-long}
@@ -37,7 +37,7 @@ pub record Known (d : List ℕ) (b : ℕ) (es : List (ℕ × Entry)) : Type 0 wh
   pub missed : (i : ℕ) → lookup i es ≡ none → (q : ℕ) → Refers d b i q → ⊥
 
 -- The groups of triplet j, which belongs to the RLO r.
-module _ (d : List ℕ) (j : ℕ) (w : Whole d j) (r : ℕ) (in-row : InRow d r j) (unique : Unique d r) (es : List (ℕ × Entry)) (known : Known d r es) where
+module _ (d : List ℕ) (j : ℕ) (w : NotTorn d j) (r : ℕ) (in-row : InRow d r j) (unique : Unique d r) (es : List (ℕ × Entry)) (known : Known d r es) where
   -- group k with what it refers to
   module _ (k : ℕ) (inside : 6 + 3 * k ≤ LENGTH d j) (q : ℕ) (refers : Refers d r (reference d j k) q) where
     same : {r′ u : ℕ} → InRow d r′ j → Refers d r′ (reference d j k) u → q ≡ u

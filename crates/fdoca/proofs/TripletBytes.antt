@@ -8,7 +8,7 @@ use lib.ListN.{length, take, drop, getD, length-drop, drop-of-length-le, List·g
 use lib.Seq.{drop-cons, take-all, length-take-le, getD-take, getD-drop}
 use Rattle.fdoca.specs.Basics.{big}
 use Rattle.fdoca.specs.Triplet.{parametersOf, pairs, biasOf, modeOf, lengthOf, Group, threes, subsetOf, versionOf}
-use Rattle.fdoca.specs.Reasons.{byte, twoBytes, place, LENGTH, byteOf, Whole, extent, reference, taken, factor}
+use Rattle.fdoca.specs.Reasons.{byte, twoBytes, place, LENGTH, byteOf, NotTorn, extent, reference, taken, factor}
 use Rattle.fdoca.proofs.Account.{big-two}
 
 -- the bytes of a run from a place on
@@ -49,7 +49,7 @@ default-unused (x ∷ l) (suc i) a b h = default-unused l i a b (omega arith)
 abbrev pub bytesOf : List ℕ → ℕ → List ℕ
 bytesOf d j = take (LENGTH d j) (drop (place d j) d)
 
-module _ (d : List ℕ) (j : ℕ) (w : Whole d j) where
+module _ (d : List ℕ) (j : ℕ) (w : NotTorn d j) where
   pub length-bytes : length (bytesOf d j) ≡ LENGTH d j
   length-bytes = length-take-le (LENGTH d j) (drop (place d j) d) (omega (arith, w .fits, length-drop (place d j) d))
 

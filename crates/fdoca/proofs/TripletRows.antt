@@ -8,7 +8,7 @@ use mathlib.Core.Bool.{Bool, true, false}
 use mathlib.Core.List.{List, [], _∷_}
 use mathlib.Core.Option.{none}
 use Rattle.fdoca.specs.Basics.{Result, refuse, ok, _>>_, reject, the}
-use Rattle.fdoca.specs.Reasons.{OneOf, place, LENGTH, byteOf, Whole, sda, rlo, isd, cpt, Is, InRow, one, row, UpTo, group, continued, Torn, below-2, past-the-end, UnknownConstruct, OutOfSequence, BadLength, BadParameter, NameTaken, missing, repetition-0, over-RLO, over-single, TooManyItems, of-row, OfTriplet, torn, unknown-construct, out-of-sequence, bad-length, bad-parameter, name-taken, too-many-items, missing-reference, not-carried, too-many-up-to}
+use Rattle.fdoca.specs.Reasons.{OneOf, place, LENGTH, byteOf, NotTorn, sda, rlo, isd, cpt, Is, InRow, one, row, UpTo, group, continued, Torn, below-2, past-the-end, UnknownConstruct, OutOfSequence, BadLength, BadParameter, NameTaken, missing, repetition-0, over-RLO, over-single, TooManyItems, of-row, OfTriplet, torn, unknown-construct, out-of-sequence, bad-length, bad-parameter, name-taken, too-many-items, missing-reference, not-carried, too-many-up-to}
 use Rattle.fdoca.proofs.Tests.{by-order}
 use Rattle.fdoca.proofs.TripletTests.{Tells}
 use Rattle.fdoca.proofs.Counting.{up-in-row}
@@ -133,12 +133,12 @@ module _ {d : List ℕ} {j : ℕ} where
       go g r (inr q) = let z : ⊥ = omega (arith, q .1, number-range r .1) in z
 
   -- a whole triplet passes number 2, and one of a known type 3
-  pub whole-clear : Whole d j → Clear d j 0 3
+  pub whole-clear : NotTorn d j → Clear d j 0 3
   whole-clear w = clear-more first-number (λ r. not-torn (row-2 r))
     where
       not-torn : Torn d j → ⊥
       not-torn (below-2 x) = omega (arith, w .long)
       not-torn (past-the-end x) = omega (arith, w .fits)
 
-  pub known-clear : Whole d j → OneOf (byteOf d j 1) (sda ∷ rlo ∷ isd ∷ cpt ∷ []) → Clear d j 0 4
+  pub known-clear : NotTorn d j → OneOf (byteOf d j 1) (sda ∷ rlo ∷ isd ∷ cpt ∷ []) → Clear d j 0 4
   known-clear w o = clear-more (whole-clear w) (λ r. row-3 r .not-carried o)

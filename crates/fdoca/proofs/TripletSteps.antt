@@ -16,7 +16,7 @@ use Rattle.fdoca.specs.Triplet.{Construct, constructs, constructOf, idOf
 use Rattle.fdoca.specs.Triplet as T
 use Rattle.fdoca.specs.Check as C
 use Rattle.fdoca.specs.Check.{Entry, State, closed, closeRow, isDescribed, goodLengthSDA, goodSDA, goodLengthRow, goodLengthISD, goodISD, maxItems, addGroups, checkSDA, checkRLO, checkCPT, checkISD, checkConstruct, checkTriplet}
-use Rattle.fdoca.specs.Reasons.{OneOf, here, there, place, LENGTH, byteOf, Whole, There, sda, rlo, isd, cpt, Is, Describes, InRow, Refers, extent, one, two, three, Counts, row, UpTo, start, continued, OutOfSequence, CPT-first, CPT-after, ISD-later, NameTaken, taken-by, TooManyItems, of-SDA, OfTriplet, unknown-construct, out-of-sequence, bad-length, bad-parameter, name-taken, too-many-items}
+use Rattle.fdoca.specs.Reasons.{OneOf, here, there, place, LENGTH, byteOf, NotTorn, There, sda, rlo, isd, cpt, Is, Describes, InRow, Refers, extent, one, two, three, Counts, row, UpTo, start, continued, OutOfSequence, CPT-first, CPT-after, ISD-later, NameTaken, taken-by, TooManyItems, of-SDA, OfTriplet, unknown-construct, out-of-sequence, bad-length, bad-parameter, name-taken, too-many-items}
 use Rattle.fdoca.proofs.Tests.{by-order}
 use Rattle.fdoca.proofs.TripletBytes.{bytesOf, byte-bytes}
 use Rattle.fdoca.proofs.Table.{looked-up}
@@ -32,7 +32,7 @@ pub data Current (d : List ℕ) (j : ℕ) (es : List (ℕ × Entry)) : Option (�
 
 -- What the check knows before triplet j.
 pub record Before (d : List ℕ) (j : ℕ) (st : State) : Type 0 where
-  pub whole : (i : ℕ) → i < j → Whole d i
+  pub whole : (i : ℕ) → i < j → NotTorn d i
   pub unique : Unique d j
   pub current : Current d j (st .described) (st .current)
 
@@ -71,7 +71,7 @@ unique-more {d} {j} x n id q u h k a b =
     (λ e. by-order u j (λ m. absurd (n id u m b (rw e at a))) (λ f. e ∙ sym f) (λ m. absurd (let z : ⊥ = omega arith in z)))
     (λ l. absurd (let z : ⊥ = omega arith in z))
 
-whole-more : {d : List ℕ} {j : ℕ} → ((i : ℕ) → i < j → Whole d i) → Whole d j → (i : ℕ) → i < suc j → Whole d i
+whole-more : {d : List ℕ} {j : ℕ} → ((i : ℕ) → i < j → NotTorn d i) → NotTorn d j → (i : ℕ) → i < suc j → NotTorn d i
 whole-more {d} {j} f w i h = by-order i j (λ l. f i l) (λ e. rw e w) (λ l. absurd (let z : ⊥ = omega arith in z))
 
 -- The ids that are described once the row before triplet j has ended.
@@ -91,7 +91,7 @@ place-first : (d : List ℕ) → place d 0 ≡ 0
 unfolding place
 place-first d = refl
 
-place-later : {d : List ℕ} (j : ℕ) → 0 < j → ((i : ℕ) → i < j → Whole d i) → 0 < place d j
+place-later : {d : List ℕ} (j : ℕ) → 0 < j → ((i : ℕ) → i < j → NotTorn d i) → 0 < place d j
 unfolding place
 place-later zero h f = absurd (let z : ⊥ = omega arith in z)
 place-later (suc i) h f = omega (arith, f i (omega arith) .long)
@@ -126,7 +126,7 @@ SDA-entry {d} {j} i (two-there e) = let q : extent d j 1 * 1 ≡ extent d j 1 = 
 SDA-entry {d} {j} i (three-there e) = let q : extent d j 2 * 1 ≡ extent d j 2 = omega arith in of-array {xs = extent d j 1 ∷ extent d j 2 ∷ []} i (rw q (three e)) refl
 
 -- THE CONSTRUCTS, after triplets with no reason.
-module _ (d : List ℕ) (j : ℕ) (there-is : There d j) (w : Whole d j) where
+module _ (d : List ℕ) (j : ℕ) (there-is : There d j) (w : NotTorn d j) where
   -- number 7: the id of an SDA or RLO
   name-told : (es : List (ℕ × Entry)) → Known d j es → Describes d (byteOf d j 2) j → idOf (bytesOf d j) ≡ byteOf d j 2
       → Tells (isDescribed (idOf (bytesOf d j)) es) (OfTriplet d j 0 7)

@@ -14,7 +14,7 @@ use Rattle.fdoca.specs.Basics.{elem}
 use Rattle.fdoca.specs.FieldType.{FieldType, typeOf, ruleOf}
 use Rattle.fdoca.specs.Triplet.{idOf, codeOf, parametersOf, extentsOf, subsetOf, versionOf}
 use Rattle.fdoca.specs.Check.{goodType, goodLengthSDA, goodSDA, goodLengthRow, goodLengthISD, goodISD}
-use Rattle.fdoca.specs.Reasons.{OneOf, here, there, LENGTH, byteOf, Whole, sda, rlo, isd, cpt, Is, Describes, extent, GoodParameters, Form, SDA, RLO, CPT, ISD, BadLength, BadParameter, own-id-0, parameters, extent-0, reserved, ISD-id, subset, version}
+use Rattle.fdoca.specs.Reasons.{OneOf, here, there, LENGTH, byteOf, NotTorn, sda, rlo, isd, cpt, Is, Describes, extent, GoodParameters, Form, SDA, RLO, CPT, ISD, BadLength, BadParameter, own-id-0, parameters, extent-0, reserved, ISD-id, subset, version}
 use Rattle.fdoca.proofs.Tests.{and-left, and-right}
 use Rattle.fdoca.proofs.TripletBytes.{bytesOf, length-bytes, byte-bytes, byte-parameters, bias-bytes, mode-bytes, length-field-bytes, extents-from, extents-end, subset-bytes, version-bytes, version-left-off}
 use Rattle.fdoca.proofs.TypeRows.{elem-in, elem-out, good-parts, parts-good, rule-allows, table-allows, type-of-code}
@@ -88,7 +88,7 @@ row-has-form : {c n : ℕ} → OneOf c (rlo ∷ cpt ∷ []) → (k : ℕ) × (n 
 row-has-form (here e) k = rw (e, k .1) (RLO (k .0))
 row-has-form (there (here e)) k = rw (e, k .1) (CPT (k .0))
 
-module _ (d : List ℕ) (j : ℕ) (w : Whole d j) where
+module _ (d : List ℕ) (j : ℕ) (w : NotTorn d j) where
   pub extents-are : OneOf (LENGTH d j) (12 ∷ 14 ∷ 16 ∷ 18 ∷ []) → Extents d j (extentsOf (bytesOf d j))
   extents-are (here e) = rw (extents-end d j w 0 e) (none-there e)
   extents-are (there (here e)) = rw (extents-from d j w 0 (omega arith), extents-end d j w 1 e) (one-there e)

@@ -34,13 +34,14 @@ LENGTH d j = byte d (place d j)
 abbrev pub byteOf : List ℕ → (j i : ℕ) → ℕ
 byteOf d j i = byte d (place d j + i)
 
-pub record Whole (d : List ℕ) (j : ℕ) : Type 0 where
+-- LENGTH is at least 2, and the triplet ends within the descriptor.
+pub record NotTorn (d : List ℕ) (j : ℕ) : Type 0 where
   pub long : 2 ≤ LENGTH d j
   pub fits : place d j + LENGTH d j ≤ length d
 
--- Triplet j is there: those before it are whole, and bytes are left.
+-- Triplet j is there: those before it are not torn, and bytes are left.
 pub record There (d : List ℕ) (j : ℕ) : Type 0 where
-  pub before : (i : ℕ) → i < j → Whole d i
+  pub before : (i : ℕ) → i < j → NotTorn d i
   pub left : place d j < length d
 
 -- Byte 1 is the construct type.
@@ -72,8 +73,8 @@ pub record InRow (d : List ℕ) (r j : ℕ) : Type 0 where
   pub continued : (i : ℕ) → r < i → i ≤ j → Is d cpt i
 
 -- Group k of triplet j lies within its LENGTH: from byte 3, three bytes each.
-abbrev pub Group : List ℕ → (j k : ℕ) → Type 0
-Group d j k = 6 + 3 * k ≤ LENGTH d j
+abbrev pub HasGroup : List ℕ → (j k : ℕ) → Type 0
+HasGroup d j k = 6 + 3 * k ≤ LENGTH d j
 
 abbrev pub reference : List ℕ → (j k : ℕ) → ℕ
 reference d j k = byteOf d j (3 + 3 * k)
@@ -116,7 +117,7 @@ mutual
   -- The RLO r counts n items before group k of its triplet j.
   pub data UpTo (d : List ℕ) : (r j k n : ℕ) → Type 0 where
     start : {r : ℕ} → Is d rlo r → UpTo d r r 0 0
-    group : {r j k n m : ℕ} → UpTo d r j k n → Group d j k → Adds d r j k m → UpTo d r j (suc k) (n + m)
+    group : {r j k n m : ℕ} → UpTo d r j k n → HasGroup d j k → Adds d r j k m → UpTo d r j (suc k) (n + m)
     continued : {r j k n : ℕ} → UpTo d r j k n → LENGTH d j ≡ 3 + 3 * k → Is d cpt (suc j) → UpTo d r (suc j) 0 n
 
 -- FIELD TYPES (01's table): type code, bias indicator, mode, F. A type plus X'80' is its nullable form.
@@ -180,13 +181,13 @@ pub data NameTaken (d : List ℕ) (j : ℕ) : Type 0 where
 
 -- 8, Missing reference: id not described yet.
 pub data MissingReference (d : List ℕ) (j k : ℕ) : Type 0 where
-  missing : {r : ℕ} → InRow d r j → Group d j k → ((q : ℕ) → Refers d r (reference d j k) q → ⊥) → MissingReference d j k
+  missing : {r : ℕ} → InRow d r j → HasGroup d j k → ((q : ℕ) → Refers d r (reference d j k) q → ⊥) → MissingReference d j k
 
 -- 9, Not carried: repetition 0; elements taken above 0 over an RLO or an SDA without extents.
 pub data NotCarried (d : List ℕ) (j k : ℕ) : Type 0 where
-  repetition-0 : {r : ℕ} → InRow d r j → Group d j k → factor d j k ≡ 0 → NotCarried d j k
-  over-RLO : {r q : ℕ} → InRow d r j → Group d j k → 0 < taken d j k → Refers d r (reference d j k) q → Is d rlo q → NotCarried d j k
-  over-single : {r q : ℕ} → InRow d r j → Group d j k → 0 < taken d j k → Refers d r (reference d j k) q → Is d sda q → LENGTH d q ≡ 12
+  repetition-0 : {r : ℕ} → InRow d r j → HasGroup d j k → factor d j k ≡ 0 → NotCarried d j k
+  over-RLO : {r q : ℕ} → InRow d r j → HasGroup d j k → 0 < taken d j k → Refers d r (reference d j k) q → Is d rlo q → NotCarried d j k
+  over-single : {r q : ℕ} → InRow d r j → HasGroup d j k → 0 < taken d j k → Refers d r (reference d j k) q → Is d sda q → LENGTH d q ≡ 12
       → NotCarried d j k
 
 -- 10, Too many items: the SDA's count, or the RLO's count up to this group, over 4,096.
