@@ -1,6 +1,6 @@
--- The list call: the list keeps its length and the entries beyond its 2 + 2n; on a refusal it keeps all.
+-- An accepted list call: the list keeps its length and the entries beyond its 2 + 2n.
 -- Assumes nothing.
-use mathlib.Core.Path.{_≡_, refl, sym, ap, _∙_}
+use mathlib.Core.Path.{_≡_, sym, ap, _∙_}
 use Prim.Native.Nat.{ℕ, _+_, _*_, _≤_}
 use native.Mathlib.Omega.{arith}
 use mathlib.Core.List.{List, _∷_, _++_, map, append-assoc}
@@ -8,11 +8,11 @@ use lib.Dec.{ltb}
 use lib.ListN.{length, drop, length-map, length-append, length-drop}
 use lib.Seq.{drop-at}
 use borrow.Author.Tests.{ltb-false}
-use Rattle.fdoca.specs.Basics.{refuse, ok, _>>=_, _>>_}
+use Rattle.fdoca.specs.Basics.{ok}
 use Rattle.fdoca.specs.Check.{check}
 use Rattle.fdoca.specs.Unfolding.{unfolded}
 use Rattle.fdoca.specs.Walk.{Note, walk}
-use Rattle.fdoca.specs.Calls.{oversize, itemList, list, entriesAfter}
+use Rattle.fdoca.specs.Calls.{oversize, itemList, list}
 use Rattle.fdoca.proofs.Results.{IfOk, holds, bind-all, reject-all, ok-of, itself}
 use Rattle.fdoca.proofs.Count.{count-is-length}
 use Rattle.fdoca.proofs.Cover.{walk-covers}
@@ -48,7 +48,3 @@ list-kept d s old =
 -- An accepted list call keeps the list's length, and all its entries beyond 2 + 2n.
 pub list-keeps : (d s old new : List ℕ) → list d s old ≡ ok new → (n : ℕ) × (check d ≡ ok n) × Kept n old new
 list-keeps d s old new e = ok-of (rw e at (list-kept d s old))
-
--- A refused one keeps all entries.
-pub refusal-keeps : (d s old : List ℕ) (n p : ℕ) → list d s old ≡ refuse n p → entriesAfter old (list d s old) ≡ old
-refusal-keeps d s old n p e = rw e
