@@ -125,6 +125,33 @@ module _ (f : List ℕ) where
 pub count-of-descriptor : (d : List ℕ) (n : ℕ) → check d ≡ ok n → (n ≡ length (unfolded d)) × (n ≤ 4096)
 count-of-descriptor d n accepts = (sym (count-is-length d n accepts), at-most-4096 d n accepts)
 
+module _ (d s : List ℕ) (n : ℕ) (accepts : check d ≡ ok n) where
+  -- The walk stops exactly at the first item that the data cuts short or spoils, or at bytes left over; else it takes all items.
+  pub walk-stops : (m p : ℕ) → (walk (unfolded d) s ≡ refuse m p) ↔ First (OfItems (unfolded d) s) m p
+  walk-stops m p = refused-first (walk (unfolded d) s) (items-told d s n accepts) m p
+
+  pub walk-ends : ((ns : List Note) × (walk (unfolded d) s ≡ ok ns)) ↔ None (OfItems (unfolded d) s)
+  walk-ends = accepted-none (walk (unfolded d) s) (items-told d s n accepts)
+
+  -- It then has taken n items.
+  pub items-counted : (ns : List Note) → walk (unfolded d) s ≡ ok ns → length ns ≡ n
+  items-counted ns e = items-noted d s n ns accepts e
+
+-- The items that the walk takes are those of the unfolding in order, laid end to end over the whole block;
+module _ (d s : List ℕ) (ns : List Note) (e : walk (unfolded d) s ≡ ok ns) where
+  pub items-of-unfolding : map (λ i. i .field) ns ≡ unfolded d
+  items-of-unfolding = walk-covers (unfolded d) s ns e .fields
+
+  pub lengths-add-up : (sum (lengths ns) ≡ length s) × (map (λ i. i .start) ns ≡ positions 0 (lengths ns))
+  lengths-add-up = (walk-covers (unfolded d) s ns e .total, walk-covers (unfolded d) s ns e .starts)
+
+  -- so each byte lies in one item, and in no other.
+  pub byte-in-one-item : (b : ℕ) → b < length s → (k : ℕ) × InItem ns b k
+  byte-in-one-item b h = in-an-item (unfolded d) s ns e b h
+
+  pub byte-in-no-other : (b j k : ℕ) → InItem ns b j → InItem ns b k → j ≡ k
+  byte-in-no-other b j k x y = in-one-item (unfolded d) s ns e b j k x y
+
 -- An accepted descriptor, and data within its limit.
 module _ (d s : List ℕ) (n : ℕ) (accepts : check d ≡ ok n) (few : length s ≤ 32768) where
   no-oversize : oversize d s ≡ false
@@ -144,13 +171,6 @@ module _ (d s : List ℕ) (n : ℕ) (accepts : check d ≡ ok n) (few : length s
   item-walks : (k : ℕ) → itemAt d s k ≡ (walk (unfolded d) s >>= (λ ns. the (getElem? ns k) 17 0))
   unfolding itemAt
   item-walks k = rw (no-oversize, accepts)
-
-  -- The walk stops exactly at the first item that the data cuts short or spoils, or at bytes left over; else it takes all items.
-  pub walk-stops : (m p : ℕ) → (walk (unfolded d) s ≡ refuse m p) ↔ First (OfItems (unfolded d) s) m p
-  walk-stops m p = refused-first (walk (unfolded d) s) (items-told d s n accepts) m p
-
-  pub walk-ends : ((ns : List Note) × (walk (unfolded d) s ≡ ok ns)) ↔ None (OfItems (unfolded d) s)
-  walk-ends = accepted-none (walk (unfolded d) s) (items-told d s n accepts)
 
   -- Where the walk stops, the list call with room enough and the state of any item say so, the list is as before, and no part is lent.
   module _ (m p : ℕ) (e : walk (unfolded d) s ≡ refuse m p) where
@@ -180,20 +200,6 @@ module _ (d s : List ℕ) (n : ℕ) (accepts : check d ≡ ok n) (few : length s
     no-more-states k h =
         let q = past-end ns k (omega (arith, items-noted d s n ns accepts e)) in
         (rw (item-walks k, e, q), rw (item-walks k, e, q))
-
-    -- There are n items, those of the unfolding in order, laid end to end over the whole block;
-    pub items-of-unfolding : (length ns ≡ n) × (map (λ i. i .field) ns ≡ unfolded d)
-    items-of-unfolding = (items-noted d s n ns accepts e, walk-covers (unfolded d) s ns e .fields)
-
-    pub lengths-add-up : (sum (lengths ns) ≡ length s) × (map (λ i. i .start) ns ≡ positions 0 (lengths ns))
-    lengths-add-up = (walk-covers (unfolded d) s ns e .total, walk-covers (unfolded d) s ns e .starts)
-
-    -- so each byte lies in one item, and in no other.
-    pub byte-in-one-item : (b : ℕ) → b < length s → (k : ℕ) × InItem ns b k
-    byte-in-one-item b h = in-an-item (unfolded d) s ns e b h
-
-    pub byte-in-no-other : (b j k : ℕ) → InItem ns b j → InItem ns b k → j ≡ k
-    byte-in-no-other b j k x y = in-one-item (unfolded d) s ns e b j k x y
 
 -- DEMAND 2
 
