@@ -1,20 +1,25 @@
 -- What is handed to a C caller part by part is the call's answer.
 -- Assumes nothing.
-use Prim.Native.Nat.{ℕ}
+use Prim.Native.Nat.{ℕ, _+_, _≤_}
 use mathlib.Core.Path.{_≡_, _∙_, refl, ap}
 use mathlib.Core.Bool.{Bool, true, false}
 use mathlib.Core.List.{List}
 use lib.IntN.{ℤ}
+use lib.ListN.{length}
 use mir.Syntax.{w64}
 use mir.Val.{SFits, boolByte, ofZ, toZ}
 use mir.Facts.{toZ-ofZ}
 use Rattle.fdoca.specs.declared.Checked.{Checked}
 use Rattle.fdoca.specs.declared.Listed.{Listed}
+use Rattle.fdoca.specs.declared.State.{State}
 use Rattle.fdoca.specs.declared.Whole.{Whole}
-use Rattle.fdoca.specs.Basics.{if_then_else_, Result}
-use Rattle.fdoca.specs.Calls.{checked, wholeAnswer}
+use Rattle.fdoca.specs.Basics.{Result}
+use Rattle.fdoca.specs.Walk.{Note}
+use Rattle.fdoca.specs.Calls.{checked, stateOf, wholeAnswer}
+use Rattle.blocks.specs.declared.Lent.{Lent}
 use Rattle.blocks.specs.Answers.{ListedAs}
-use Rattle.panel.specs.Given.{CheckGiven, ListGiven, WholeGiven}
+use Rattle.blocks.specs.Lending.{lentAt}
+use Rattle.panel.specs.Given.{CheckGiven, ListGiven, mark, StateGiven, LentGiven, WholeGiven}
 
 pub check-given : {x : Result ℕ} {r : Checked} → r ≡ checked x → CheckGiven x (r .number) (r .place) (r .items)
 check-given e =
@@ -32,15 +37,36 @@ list-given h =
       entries = h .entries;
     }
 
-as-number : (t : Bool) → boolByte t ≡ (if t then 1 else 0)
+as-number : (t : Bool) → boolByte t ≡ mark t
 as-number true = refl
 as-number false = refl
+
+pub state-given : {x : Result Note} {r : State} → r ≡ stateOf x → StateGiven x (r .number) (r .place) (boolByte (r .null)) (r .code) (r .length)
+state-given {r = r} e =
+    record {
+      returned = ap (λ (a : State). a .number) e;
+      placed = ap (λ (a : State). a .place) e;
+      marked = as-number (r .null) ∙ ap (λ (a : State). mark (a .null)) e;
+      coded = ap (λ (a : State). a .code) e;
+      sized = ap (λ (a : State). a .length) e;
+    }
+
+pub lent-given : {x : Result Note} {s : List ℕ} {r : Lent} → (r ≡ lentAt x) × (r .offset + r .length ≤ length s)
+    → LentGiven x s (r .number) (r .place) (r .offset) (r .length)
+lent-given h =
+    record {
+      returned = ap (λ (a : Lent). a .number) (h .0);
+      placed = ap (λ (a : Lent). a .place) (h .0);
+      begins = ap (λ (a : Lent). a .offset) (h .0);
+      sized = ap (λ (a : Lent). a .length) (h .0);
+      within = h .1;
+    }
 
 pub whole-given : {x : Result (Bool × ℤ)} {r : Whole} → r ≡ wholeAnswer x → SFits w64 (r .value) → WholeGiven x (r .number) (r .place) (boolByte (r .null)) (toZ w64 (ofZ w64 (r .value)))
 whole-given {r = r} e fits =
     record {
       returned = ap (λ (a : Whole). a .number) e;
       placed = ap (λ (a : Whole). a .place) e;
-      marked = as-number (r .null) ∙ ap (λ (a : Whole). if a .null then 1 else 0) e;
+      marked = as-number (r .null) ∙ ap (λ (a : Whole). mark (a .null)) e;
       read = toZ-ofZ fits ∙ ap (λ (a : Whole). a .value) e;
     }

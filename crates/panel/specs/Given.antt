@@ -1,12 +1,15 @@
 -- What a C caller is given: the number returned, and what is written through each lent number and into the list, also on a refusal. All of
 -- it is the answer to what the call's definition gives.
-use Prim.Native.Nat.{ℕ}
+use Prim.Native.Nat.{ℕ, _+_, _≤_}
 use mathlib.Core.Bool.{Bool}
 use mathlib.Core.Path.{_≡_}
 use mathlib.Core.List.{List}
 use lib.IntN.{ℤ}
+use lib.ListN.{length}
 use Rattle.fdoca.specs.Basics.{if_then_else_, Result}
-use Rattle.fdoca.specs.Calls.{checked, listed, entriesAfter, wholeAnswer}
+use Rattle.fdoca.specs.Walk.{Note}
+use Rattle.fdoca.specs.Calls.{checked, listed, entriesAfter, stateOf, wholeAnswer}
+use Rattle.blocks.specs.Lending.{lentAt}
 
 -- The check, which gives x.
 pub record CheckGiven (x : Result ℕ) (number place items : ℕ) : Type 0 where
@@ -20,9 +23,29 @@ pub record ListGiven (x : Result (List ℕ)) (old : List ℕ) (number place : �
   pub placed : place ≡ listed x .place
   pub entries : new ≡ entriesAfter old x
 
--- The whole-number read, which gives x. The null mark is 1, and 0 where there is none.
-pub record WholeGiven (x : Result (Bool × ℤ)) (number place mark : ℕ) (value : ℤ) : Type 0 where
+-- The null mark as a number: 1, and 0 where there is none.
+abbrev pub mark : Bool → ℕ
+mark null = if null then 1 else 0
+
+-- The state of the item x.
+pub record StateGiven (x : Result Note) (number place null code value : ℕ) : Type 0 where
+  pub returned : number ≡ stateOf x .number
+  pub placed : place ≡ stateOf x .place
+  pub marked : null ≡ mark (stateOf x .null)
+  pub coded : code ≡ stateOf x .code
+  pub sized : value ≡ stateOf x .length
+
+-- Where the value of the item x lies in the data s: within them, also where it is empty.
+pub record LentGiven (x : Result Note) (s : List ℕ) (number place offset size : ℕ) : Type 0 where
+  pub returned : number ≡ lentAt x .number
+  pub placed : place ≡ lentAt x .place
+  pub begins : offset ≡ lentAt x .offset
+  pub sized : size ≡ lentAt x .length
+  pub within : offset + size ≤ length s
+
+-- The whole-number read, which gives x.
+pub record WholeGiven (x : Result (Bool × ℤ)) (number place null : ℕ) (value : ℤ) : Type 0 where
   pub returned : number ≡ wholeAnswer x .number
   pub placed : place ≡ wholeAnswer x .place
-  pub marked : mark ≡ (if wholeAnswer x .null then 1 else 0)
+  pub marked : null ≡ mark (wholeAnswer x .null)
   pub read : value ≡ wholeAnswer x .value

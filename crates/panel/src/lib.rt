@@ -1,8 +1,8 @@
-// The calls that a program in C makes: check a descriptor, list a block's items, read a whole number. A slice is passed as a pointer and
-// a count of elements. The number is returned, and every other result is written where the caller lends room for it, also on a refusal.
+// The calls that a program in C makes. A slice is passed as a pointer and a count of elements. The number is returned, and every other
+// result is written where the caller lends room for it, also on a refusal.
 ghost use Rattle.fdoca.specs.Check.{check};
 ghost use Rattle.fdoca.specs.Calls as calls;
-ghost use Rattle.panel.specs.Given.{CheckGiven, ListGiven, WholeGiven};
+ghost use Rattle.panel.specs.Given.{CheckGiven, ListGiven, StateGiven, LentGiven, WholeGiven};
 
 // Checks a descriptor: how many items it describes.
 #[no_mangle]
@@ -28,6 +28,46 @@ pub extern "C" fn fdoca_list(
     let listed = blocks::list(descriptor, data, list);
     *place = listed.place;
     listed.number
+}
+
+// Tells an item's state: null mark, type code, value length.
+#[no_mangle]
+pub extern "C" fn fdoca_state(
+    descriptor: &[u8],
+    data: &[u8],
+    item: u32,
+    place: &mut u32,
+    is_null: &mut u32,
+    type_code: &mut u32,
+    value: &mut u32,
+) -> u32
+    ensures { λ r. ⌜ StateGiven (calls.itemAt (now (descriptor .entry)) (now («data» .entry)) item) r (now (place .exit)) (now («is_null» .exit)) (now («type_code» .exit)) (now (value .exit)) ⌝ }
+{
+    let state = blocks::state(descriptor, data, item);
+    *place = state.place;
+    *is_null = state.null as u32;
+    *type_code = state.code as u32;
+    *value = state.length;
+    state.number
+}
+
+// Tells where in the data an item's value lies.
+#[no_mangle]
+pub extern "C" fn fdoca_lend(
+    descriptor: &[u8],
+    data: &[u8],
+    item: u32,
+    place: &mut u32,
+    offset: &mut u32,
+    size: &mut u32,
+) -> u32
+    ensures { λ r. ⌜ LentGiven (calls.itemAt (now (descriptor .entry)) (now («data» .entry)) item) (now («data» .entry)) r (now (place .exit)) (now (offset .exit)) (now (size .exit)) ⌝ }
+{
+    let lent = blocks::value_place(descriptor, data, item);
+    *place = lent.place;
+    *offset = lent.offset;
+    *size = lent.length;
+    lent.number
 }
 
 // Reads a whole-number item; a null is 0 with the null mark 1.
