@@ -27,8 +27,10 @@ pub struct Lent {
 // The largest data block.
 const MOST_DATA: usize = 32768;
 
-// Plans of up to so many items take a small buffer.
+// The two sizes of a plan: a buffer is cleared before use, so a small block takes a small one.
 const FEW: usize = 128;
+
+const MANY: usize = 4096;
 
 // The list call on an accepted descriptor, with a plan of as many entries as there are items. The list is written only after the whole block
 // is known to be good.
@@ -75,34 +77,8 @@ fn find_by(
     walks::find(plan, data, item)
 }
 
-fn list_few(
-    desc: &[u8],
-    starts: &[u16; 256],
-    sizes: &[u32; 256],
-    entries: &[u64; 256],
-    x: Examined,
-    data: &[u8],
-    list: &mut [u32],
-) -> Listed
-    requires { ⌜ Ready (now desc) (now starts) (now sizes) (now entries) (x .id) (x .items) × (length (now «data») ≤ 32768)
-        × (2 + 2 * x .items ≤ length (now list)) × (x .items ≤ 128) ⌝ }
-    ensures { λ r. ⌜ ListedAs (itemsInto (x .items) (unfolded (now (desc .entry))) (now («data» .entry)) (now (list .entry))) (now (list .entry)) r (now (list .exit)) ⌝ }
-{
-    let mut plan = [0u64; 128];
-    let n = x.items as usize;
-    list_by(
-        desc,
-        starts,
-        sizes,
-        entries,
-        x.id,
-        &mut plan[..n],
-        data,
-        list,
-    )
-}
-
-fn list_many(
+// The list call on an accepted descriptor, with a plan in the smaller buffer that holds it.
+fn list_planned(
     desc: &[u8],
     starts: &[u16; 256],
     sizes: &[u32; 256],
@@ -115,18 +91,14 @@ fn list_many(
         × (2 + 2 * x .items ≤ length (now list)) ⌝ }
     ensures { λ r. ⌜ ListedAs (itemsInto (x .items) (unfolded (now (desc .entry))) (now («data» .entry)) (now (list .entry))) (now (list .entry)) r (now (list .exit)) ⌝ }
 {
-    let mut plan = [0u64; 4096];
     let n = x.items as usize;
-    list_by(
-        desc,
-        starts,
-        sizes,
-        entries,
-        x.id,
-        &mut plan[..n],
-        data,
-        list,
-    )
+    let id = x.id;
+    if n <= FEW {
+        let mut few = [0u64; FEW];
+        return list_by(desc, starts, sizes, entries, id, &mut few[..n], data, list);
+    }
+    let mut many = [0u64; MANY];
+    list_by(desc, starts, sizes, entries, id, &mut many[..n], data, list)
 }
 
 // Lists a block's items: number and place, and in the caller's list the count, the block's length, each item's start and each item's id. On a
@@ -157,39 +129,11 @@ pub fn list(descriptor: &[u8], data: &[u8], list: &mut [u32]) -> Listed
             place: 0,
         };
     }
-    if n <= FEW {
-        return list_few(descriptor, &starts, &sizes, &entries, x, data, list);
-    }
-    list_many(descriptor, &starts, &sizes, &entries, x, data, list)
+    list_planned(descriptor, &starts, &sizes, &entries, x, data, list)
 }
 
-fn find_few(
-    desc: &[u8],
-    starts: &[u16; 256],
-    sizes: &[u32; 256],
-    entries: &[u64; 256],
-    x: Examined,
-    data: &[u8],
-    item: u32,
-) -> Found
-    requires { ⌜ Ready (now desc) (now starts) (now sizes) (now entries) (x .id) (x .items) × (length (now «data») ≤ 32768) × (x .items ≤ 128) ⌝ }
-    ensures { λ r. ⌜ FoundAs (itemOf (unfolded (now (desc .entry))) (now («data» .entry)) item) (now («data» .entry)) r ⌝ }
-{
-    let mut plan = [0u64; 128];
-    let n = x.items as usize;
-    find_by(
-        desc,
-        starts,
-        sizes,
-        entries,
-        x.id,
-        &mut plan[..n],
-        data,
-        item,
-    )
-}
-
-fn find_many(
+// One item of an accepted descriptor's block, with a plan in the smaller buffer that holds it.
+fn find_planned(
     desc: &[u8],
     starts: &[u16; 256],
     sizes: &[u32; 256],
@@ -201,18 +145,14 @@ fn find_many(
     requires { ⌜ Ready (now desc) (now starts) (now sizes) (now entries) (x .id) (x .items) × (length (now «data») ≤ 32768) ⌝ }
     ensures { λ r. ⌜ FoundAs (itemOf (unfolded (now (desc .entry))) (now («data» .entry)) item) (now («data» .entry)) r ⌝ }
 {
-    let mut plan = [0u64; 4096];
     let n = x.items as usize;
-    find_by(
-        desc,
-        starts,
-        sizes,
-        entries,
-        x.id,
-        &mut plan[..n],
-        data,
-        item,
-    )
+    let id = x.id;
+    if n <= FEW {
+        let mut few = [0u64; FEW];
+        return find_by(desc, starts, sizes, entries, id, &mut few[..n], data, item);
+    }
+    let mut many = [0u64; MANY];
+    find_by(desc, starts, sizes, entries, id, &mut many[..n], data, item)
 }
 
 // No item, for a reason that lies before the items.
@@ -244,10 +184,7 @@ fn find(descriptor: &[u8], data: &[u8], item: u32) -> Found
     if x.number != 0 {
         return not_found(x.number, x.place);
     }
-    if x.items as usize <= FEW {
-        return find_few(descriptor, &starts, &sizes, &entries, x, data, item);
-    }
-    find_many(descriptor, &starts, &sizes, &entries, x, data, item)
+    find_planned(descriptor, &starts, &sizes, &entries, x, data, item)
 }
 
 // Tells an item's state: null mark, type code, value length.

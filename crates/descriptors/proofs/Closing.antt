@@ -31,8 +31,12 @@ ended d s ds p at l h r =
 pub own-place : (d s e : List ℕ) (at p q : ℕ) → q ≡ at → MakesSame d s e at p q
 own-place d s e at p q e′ = record { same = λ z ds l h t r. rw e′ (omega arith, r) }
 
-module _ (d s e : List ℕ) (at p i : ℕ) (size : p - at ≡ 6) (own : getD d at 0 ≡ 6) (once : getD d (at + 5) 0 ≡ 1) (ref : i ≡ getD d (at + 3) 0)
-    (unmarked : getD e i 0 ≡ 0) (below : at + 6 ≤ p) where
+module _ (d s e : List ℕ) (at p i : ℕ) (size : p - at ≡ 6) (once : getD d (at + 5) 0 ≡ 1) (ref : i ≡ getD d (at + 3) 0)
+    (unmarked : getD e i 0 ≡ 0) (long : 6 ≤ getD d at 0) (below : at + getD d at 0 ≤ p) where
+  -- no CPT continues it
+  own : getD d at 0 ≡ 6
+  own = omega arith
+
   -- its only group
   g : Group
   g = record { ref = getD d (at + 3) 0; taken = getD d (at + 3 + 1) 0; factor = getD d (at + 3 + 2) 0 }
@@ -90,7 +94,7 @@ module _ (d s z e : List ℕ) (p : ℕ) (x : Step) where
           let b : RowIn d s (u .described) (x .at) (r .1) = ended d s (u .described) p (x .at) (r .1) k (c .so-far) in
           let w = m .same z (u .described) (r .1) k (h .tables) b in
           let f : r .0 < 256 = omega (arith, h .id-fits, ei, i) in
-          let lt : q < p = omega (arith, w .0, c .so-far .before) in
+          let lt : q < p = omega (arith, w .0, c .so-far .long, c .so-far .before) in
           let big : count ≤ 4096 = omega (arith, h .small) in
           let sz = row-size count big in
           let g : lookup id (u .described) ≡ none = rw i (c .free) in
@@ -111,12 +115,18 @@ module _ (d s z e : List ℕ) (p : ℕ) (x : Step) where
       go u h none c = h .tables
       go u h (some r) c = absurd (true≢false (sym (c .at-hand) ∙ xr))
 
-  pub row-before : Held d s z e p x → x .row ≡ true → x .at + 6 ≤ p
-  row-before h xr = go (h .0 .current) (h .1 .current)
+  row-fits : Held d s z e p x → x .row ≡ true → (6 ≤ getD d (x .at) 0) × (x .at + getD d (x .at) 0 ≤ p)
+  row-fits h xr = go (h .0 .current) (h .1 .current)
     where
-      go : (o : Option (ℕ × List Field)) → Current d s (h .0 .described) p x o → x .at + 6 ≤ p
+      go : (o : Option (ℕ × List Field)) → Current d s (h .0 .described) p x o → (6 ≤ getD d (x .at) 0) × (x .at + getD d (x .at) 0 ≤ p)
       go none c = absurd (true≢false (sym xr ∙ c))
-      go (some r) c = c .so-far .before
+      go (some r) c = (c .so-far .long, c .so-far .before)
+
+  pub row-long : Held d s z e p x → x .row ≡ true → 6 ≤ getD d (x .at) 0
+  row-long h xr = row-fits h xr .0
+
+  pub row-before : Held d s z e p x → x .row ≡ true → x .at + getD d (x .at) 0 ≤ p
+  row-before h xr = row-fits h xr .1
 
   pub held-small : Held d s z e p x → length d ≤ 4096 → p ≤ 4096
   held-small h k = omega (arith, h .1 .there)

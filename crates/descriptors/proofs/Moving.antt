@@ -232,6 +232,7 @@ module _ (d s z e s′ z′ e′ : List ℕ) (p n : ℕ) (x r : Step) (u : Layou
       let far : RowSoFar d s′ (closed u) (p + n) p made =
       record {
         head = omega arith;
+        long = omega arith;
         before = omega arith;
         groups = groupsOf rlo;
         fields = refl;
@@ -330,6 +331,7 @@ module _ (d s z e : List ℕ) (p n : ℕ) (x r : Step) (u : Layouts) (h : Holds 
       let far′ : RowSoFar d s ds (p + n) (x .at) made′ =
       record {
         head = far .head;
+        long = far .long;
         before = omega (arith, far .before);
         groups = far .groups ++ groupsOf cpt;
         fields = rw (far .fields) (add-append ds [] (far .groups) (groupsOf cpt));
@@ -382,7 +384,7 @@ module _ (d s z e : List ℕ) (x : Step) (u : Layouts) (h : Holds d s z e 0 x u)
     where
       go : (o : Option (ℕ × List Field)) → Current d s (u .described) 0 x o → o ≡ none
       go none c = refl
-      go (some r) c = absurd (let y : ⊥ = omega (arith, c .so-far .before) in y)
+      go (some r) c = absurd (let y : ⊥ = omega (arith, c .so-far .long, c .so-far .before) in y)
 
 -- behind an ISD
 module _ (d s z e s′ z′ e′ : List ℕ) (p n m : ℕ) (x r : Step) (u : Layouts) (h : Holds d s z e p x u) (there : p < length d) (en : n ≡ getD d p 0)

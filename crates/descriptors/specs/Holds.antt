@@ -65,7 +65,8 @@ pub record MakesSame (d s e : List ℕ) (at p q : ℕ) : Type 0 where
 -- The row at hand at p: its triplets from `at` on have made the list l so far, and CPTs from p on may continue it.
 pub record RowSoFar (d s : List ℕ) (ds : List (ℕ × Described)) (p at : ℕ) (l : List Field) : Type 0 where
   pub head : at + 3 ≤ length d
-  pub before : at + 6 ≤ p
+  pub long : 6 ≤ getD d at 0
+  pub before : at + getD d at 0 ≤ p
   pub groups : List Group
   pub fields : l ≡ addFields ds [] groups
   pub all : groupsAt d at ≡ groups ++ groupsIn 0 (drop p d)

@@ -2,7 +2,7 @@
 ghost use mathlib.Core.Path.{_≡_};
 ghost use Prim.Native.Nat.{_+_, _-_, _≤_, _<_};
 ghost use mathlib.Core.Bool.{true, false};
-ghost use lib.ListN.{length, set, replicate};
+ghost use lib.ListN.{length, getD, set, replicate};
 ghost use Rattle.fdoca.specs.Basics.{refuse};
 ghost use Rattle.fdoca.specs.Triplet.{triplets};
 ghost use Rattle.fdoca.specs.Check.{check};
@@ -55,20 +55,17 @@ fn bare(number: u8) -> Step
 // The place of a row that makes the list of the one at `at`, which ends at p: its own, or, where its only group is another row once, that
 // row's. So going down the references never passes through such rows one by one.
 fn row_place(desc: &[u8], starts: &[u16; 256], entries: &[u64; 256], at: usize, p: usize) -> u16
-    requires { ⌜ (at + 6 ≤ p) × (p ≤ length (now desc)) × (p ≤ 4096) ⌝ }
+    requires { ⌜ (6 ≤ getD (now desc) at 0) × (at + getD (now desc) at 0 ≤ p) × (p ≤ length (now desc)) × (p ≤ 4096) ⌝ }
     ensures { λ r. ⌜ MakesSame (now (desc .entry)) (now (starts .entry)) (now (entries .entry)) at p r ⌝ }
 {
     let own = at as u16;
     if p - at != 6 {
         return own;
     }
-    if desc[at] != 6 {
-        return own;
-    }
     if desc[at + 5] != 1 {
         return own;
     }
-    let id = field_types::wide(desc[at + 3]);
+    let id = numbers::wide(desc[at + 3]);
     if entries[id] != 0 {
         return own;
     }
@@ -91,7 +88,7 @@ fn close(
         return;
     }
     let place = row_place(desc, starts, entries, x.at, p);
-    let id = field_types::wide(x.id);
+    let id = numbers::wide(x.id);
     starts[id] = place;
     sizes[id] = x.count as u32;
     entries[id] = 0;
@@ -172,7 +169,7 @@ fn advance(
     requires { ⌜ RowTable (now rows) × Held (now desc) (now starts) (now sizes) (now entries) p x × (p < length (now desc)) × (length (now desc) ≤ 4096) ⌝ }
     ensures { λ r. ⌜ Advanced (now (desc .entry)) (now (starts .exit)) (now (sizes .exit)) (now (entries .exit)) p r ⌝ }
 {
-    let n = field_types::wide(desc[p]);
+    let n = numbers::wide(desc[p]);
     if n < 2 {
         return bare(2);
     }
@@ -230,7 +227,7 @@ pub fn examine(
         if x.number != 0 {
             return answer(x.number as u32, p as u32, 0, 0);
         }
-        p += field_types::wide(desc[p]);
+        p += numbers::wide(desc[p]);
     }
     if x.id == 0 {
         return answer(11, p as u32, 0, 0);

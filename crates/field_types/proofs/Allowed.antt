@@ -20,7 +20,7 @@ use Rattle.field_types.specs.declared.Rule.{Rule}
 use Rattle.field_types.specs.Rows.{rowOf, prefixOf, topOf, sizesOf, noSize, sizeAt, inNumbers, ruleFor, encoded, ruleAt}
 use Rattle.field_types.specs.Parameters.{unusedZero, ruleAllows, goodEight, layoutNumber, layoutIf}
 use Rattle.field_types.proofs.Rows.{rule-in-row}
-use Rattle.field_types.proofs.Pairs.{two-at}
+use Rattle.numbers.proofs.Pairs.{two-at}
 
 -- no type has more than three sizes
 few : (o : Option FieldType) → length (sizesOf (ruleFor o .lengths)) ≤ 3

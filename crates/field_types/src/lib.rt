@@ -1,9 +1,6 @@
 // Field types (document 01, "Field types"): the row of a type code, the rule of each row, and the test of an SDA's type parameters.
 ghost use mathlib.Core.Path.{_≡_};
-ghost use Prim.Native.Nat.{_<_};
-ghost use mathlib.Core.List.{[], _∷_};
 ghost use lib.ListN.{length};
-ghost use Rattle.fdoca.specs.Basics.{big};
 ghost use Rattle.fdoca.specs.FieldType.{typeOf};
 ghost use Rattle.field_types.specs.Rows.{rowOf, RowTable, ruleAt};
 ghost use Rattle.field_types.specs.Parameters.{unusedZero, ruleAllows, goodEight, layoutIf};
@@ -424,20 +421,6 @@ fn rule_at(row: u8) -> Rule
     }
 }
 
-// The number that a byte is.
-pub fn wide(a: u8) -> usize
-    ensures { λ r. ⌜ (r ≡ a) × (r < 256) ⌝ }
-{
-    a as usize
-}
-
-// The number that two bytes are, most significant first.
-pub fn pair(a: u8, b: u8) -> usize
-    ensures { λ r. ⌜ (r ≡ big (a ∷ b ∷ [])) × (r < 65536) ⌝ }
-{
-    (a as usize) * 256 + (b as usize)
-}
-
 // Whether the bytes that hold no type parameter are zero.
 fn unused_zero(ps: &[u8]) -> bool
     requires { ⌜ length (now ps) ≡ 8 ⌝ }
@@ -492,7 +475,12 @@ pub fn layout_of(rows: &[u8; 256], code: u8, ps: &[u8]) -> u8
         return NO_LAYOUT;
     }
     let rule = rule_at(rows[code as usize]);
-    if rule_allows(rule, pair(ps[2], ps[3]), ps[5], pair(ps[6], ps[7])) {
+    if rule_allows(
+        rule,
+        numbers::pair(ps[2], ps[3]),
+        ps[5],
+        numbers::pair(ps[6], ps[7]),
+    ) {
         return rule.prefix;
     }
     NO_LAYOUT

@@ -8,6 +8,7 @@ use native.Mathlib.Omega.{arith}
 use lib.Dec.{leb, eqb}
 use lib.ListN.{length, getD, take, drop}
 use borrow.Author.Tests.{ne-eqb}
+use borrow.Rule.Slice.PartAt.{part-to-end}
 use Rattle.fdoca.specs.Basics.{if_then_else_, big}
 use Rattle.fdoca.specs.FieldType.{Layout, fixed, counted, terminated, signedTwo, unsignedOne}
 use Rattle.fdoca.specs.Item.{refused, item, measureValue, measureItem}
@@ -15,11 +16,11 @@ use Rattle.fdoca.specs.Item as defined
 use Rattle.fdoca.specs.Between.{widthOf, valueLength}
 use Rattle.fdoca.proofs.Outcomes.{of-layout}
 use Rattle.field_types.specs.Rows.{layoutOf}
-use Rattle.field_types.proofs.Pairs.{two-at}
+use Rattle.numbers.proofs.Pairs.{two-at}
 use Rattle.items.specs.declared.Measured.{Measured}
 use Rattle.items.specs.Answer.{answer, measureIndicator}
 use Rattle.items.specs.Known.{Good, PartsOf}
-use Rattle.items.proofs.Ways.{rest, moved, by-indicator, one-byte}
+use Rattle.items.proofs.Ways.{moved, by-indicator, one-byte}
 
 -- a value that is measured has no null mark, its length field and the length that this tells
 record Shape (l : Layout) (F : ℕ) (s : List ℕ) (z : Bool) (p v : ℕ) : Type 0 where
@@ -157,12 +158,12 @@ module _ (b : Bool) (l : Layout) (F : ℕ) (s : List ℕ) (m : Measured) (h : m 
               let r = read mode z p v d q in
               let x : z ≡ false = r .shape-is .no-null in
               let y : p ≡ m .prefix + w = omega (arith, r .sum, r .shape-is .prefix-is) in
-              let t : v ≡ n = r .shape-is .value-is ∙ sym (rw rest at f) in
+              let t : v ≡ n = r .shape-is .value-is ∙ sym (rw part-to-end at f) in
               rw (x, y, t);
         }
 
     pub field-there : widthOf l ≤ length (take (length s - m .prefix) (drop (m .prefix) s))
-    field-there = rw rest (read (g .mode) (g .isNull) (g .prefix) (g .value) (g .padding) (g .measured) .shape-is .there)
+    field-there = rw part-to-end (read (g .mode) (g .isNull) (g .prefix) (g .value) (g .padding) (g .measured) .shape-is .there)
 
     pub prefix-fits : (w : ℕ) → w ≤ 2 → m .prefix + w < 2 ^ 64
     prefix-fits w e = omega (arith, behind .small)

@@ -5,11 +5,12 @@ use Prim.Native.Nat.{ℕ, _+_, _-_, _*_, _^_, _<_, _≤_, min}
 use mathlib.Core.Path.{_≡_, refl, sym, ap, _∙_}
 use mathlib.Core.Bool.{Bool, true, false, true≢false}
 use mathlib.Core.List.{List, [], _∷_}
-use native.Mathlib.Nat.{le-of-eq, le-of-lt, add-zero, add-comm}
+use native.Mathlib.Nat.{le-of-lt, add-zero, add-comm}
 use native.Mathlib.Omega.{arith}
 use lib.Dec.{leb, eqb, lit≤}
 use lib.ListN.{length, getD, take, drop, length-take, length-drop}
-use lib.Seq.{take-all, length-take-le}
+use lib.Seq.{length-take-le}
+use borrow.Rule.Slice.PartAt.{part-to-end}
 use borrow.Author.Tests.{lt-ltb, le-ltb, le-leb, lt-leb, eq-eqb, ne-eqb, not-true, not-false}
 use Rattle.fdoca.specs.Basics.{if_then_else_, big}
 use Rattle.fdoca.specs.FieldType.{LengthField, signedTwo, unsignedOne, Layout}
@@ -147,10 +148,6 @@ pub ruleset bounded-ways = (bounded-rest, bounded-found, bounded-none, next)
 
 pub ruleset padded-ways = (padded-short, padded-found, padded-none, next, le-of-lt)
 
--- the part from a place on
-pub rest : (s : List ℕ) (at : ℕ) → take (length s - at) (drop at s) ≡ drop at s
-rest s at = take-all (length s - at) (drop at s) (le-of-eq (length-drop at s))
-
 -- what a null indicator tells
 module _ (s : List ℕ) where
   pub no-indicator : (b : Bool) (m : Measured) → b ≡ false → m ≡ answer (item false 0 0 0) → m ≡ answer (measureIndicator b s)
@@ -260,6 +257,6 @@ module _ (b : Bool) (s : List ℕ) (m : Measured) (h : m ≡ answer (measureIndi
       pub measured-value : (r : Measured) → m .number ≡ 0 → m .null ≡ false → r ≡ movedBy (m .prefix) v → r ≡ answer (measureItem b l mode f s)
       measured-value r z k q =
           let x : measureIndicator b s ≡ item false (m .prefix) (m .value) (m .padding) = rw k at (is-item m (measureIndicator b s) (numbered-indicator b s) h z) in
-          rw (by-indicator l mode f b s, x, ← rest s (m .prefix)) (q ∙ moved-by v _ (m .prefix) (numbered-value l mode f _) e)
+          rw (by-indicator l mode f b s, x, ← part-to-end s (m .prefix)) (q ∙ moved-by v _ (m .prefix) (numbered-value l mode f _) e)
 
 pub ruleset measured-ways = (measured-refused, measured-null, measured-value, indicator-inside, moved-fits)

@@ -104,7 +104,7 @@ fn counted_one(s: &[u8], mode: u8, f: usize) -> Measured
     if s.len() < 1 {
         return refusal(SHORT_DATA);
     }
-    ranged(1, field_types::wide(s[0]), s.len() - 1, mode, f)
+    ranged(1, numbers::wide(s[0]), s.len() - 1, mode, f)
 }
 
 // A length field of two bytes, signed, most significant first.
@@ -118,7 +118,7 @@ fn counted_two(s: &[u8], mode: u8, f: usize) -> Measured
     if 128 <= high {
         return refusal(BAD_COUNT);
     }
-    let l = field_types::wide(high) * 256 + field_types::wide(s[1]);
+    let l = numbers::wide(high) * 256 + numbers::wide(s[1]);
     ranged(2, l, s.len() - 2, mode, f)
 }
 
@@ -308,10 +308,10 @@ fn value_length(s: &[u8], layout: u8, f: usize) -> usize
         return f;
     }
     if layout == 1 {
-        return field_types::wide(s[0]);
+        return numbers::wide(s[0]);
     }
     if layout == 2 {
-        return field_types::pair(s[0], s[1]);
+        return numbers::pair(s[0], s[1]);
     }
     first_zero(s)
 }

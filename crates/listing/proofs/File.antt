@@ -2,13 +2,13 @@
 -- Assumes nothing.
 use mathlib.Core.Path.{_≡_, refl, sym, ap, _∙_}
 use Prim.Native.Nat.{ℕ, _+_, _-_, _*_, _<_, _≤_}
-use native.Mathlib.Nat.{le-of-eq}
 use native.Mathlib.Omega.{arith}
 use mathlib.Core.Bool.{Bool, true, false, _||_, not, or-true}
 use mathlib.Core.List.{List, [], _∷_, _++_}
 use lib.Dec.{ltb, eqb}
 use lib.ListN.{length, getD, take, drop, length-append, length-drop}
-use lib.Seq.{sets, length-take-le, take-all, take-append-le, drop-append-le}
+use lib.Seq.{sets, length-take-le, take-append-le, drop-append-le}
+use borrow.Rule.Slice.PartAt.{part-to-end}
 use borrow.Author.Tests.{lt-ltb, le-ltb, eq-eqb, ne-eqb, ltb-false}
 use Rattle.fdoca.specs.Basics.{if_then_else_, big}
 use Rattle.fdoca.specs.Dump.{refusedLine, firstSize, secondSize, textOf, blockNotes, dump}
@@ -69,9 +69,8 @@ module _ (f t t′ : List ℕ) (r : ℕ) where
       unfolding dump
       whole-file n w =
           let x : 8 + a - 8 ≡ a = omega arith in
-          let y : take (length f - (8 + a)) (drop (8 + a) f) ≡ drop (8 + a) f = take-all (length f - (8 + a)) (drop (8 + a) f) (le-of-eq (length-drop (8 + a) f)) in
           let z : length (drop (8 + a) f) ≡ b = omega (arith, length-drop (8 + a) f) in
-          let v : Told t t′ r b (blockNotes (take a (drop 8 f)) (drop (8 + a) f)) = rw (x, y, z) at w in
+          let v : Told t t′ r b (blockNotes (take a (drop 8 f)) (drop (8 + a) f)) = rw (x, part-to-end f (8 + a), z) at w in
           dumped (textOf b (blockNotes (take a (drop 8 f)) (drop (8 + a) f)))
           (rw (le-ltb (length f) 8 h, ← ea, ← eb, le-ltb 4096 a sa, le-ltb 32768 b sb, eq-eqb (length f) (8 + a + b) n)) (v .put) (v .fits)
 

@@ -2,3 +2,4 @@ pub mod Big
 pub mod Digits
 pub mod Sign
 pub mod Whole
+pub mod Pairs

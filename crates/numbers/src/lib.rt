@@ -1,15 +1,31 @@
-// Signed whole numbers of up to eight bytes in two's complement, of either byte order (document 01, "Field types", X'23' and X'24').
+// The numbers that bytes are: one byte, two, and signed whole numbers of up to eight in two's complement, of either byte order (document 01,
+// "Field types", X'23' and X'24').
 ghost use mathlib.Core.Path.{_≡_};
 ghost use Prim.Native.Nat.{_*_, _^_, _≤_, _<_};
+ghost use mathlib.Core.List.{[], _∷_};
 ghost use lib.ListN.{length, getD};
 ghost use Rattle.fdoca.specs.Basics.{big};
 ghost use Rattle.numbers.specs.Whole.{ordered, twos, wholeUpTo8};
 
-// The number that a byte is.
-fn wide(a: u8) -> u64
+// The number that a byte is, as a place or a count.
+pub fn wide(a: u8) -> usize
+    ensures { λ r. ⌜ (r ≡ a) × (r < 256) ⌝ }
+{
+    a as usize
+}
+
+// The number that a byte is, as a part of a larger one.
+pub fn wide64(a: u8) -> u64
     ensures { λ r. ⌜ (r ≡ a) × (r < 256) ⌝ }
 {
     a as u64
+}
+
+// The number that two bytes are, most significant first.
+pub fn pair(a: u8, b: u8) -> usize
+    ensures { λ r. ⌜ (r ≡ big (a ∷ b ∷ [])) × (r < 65536) ⌝ }
+{
+    (a as usize) * 256 + (b as usize)
 }
 
 // The byte at `i`, counted from the most significant one.
@@ -18,9 +34,9 @@ fn digit(s: &[u8], reversed: bool, i: usize) -> u64
     ensures { λ r. ⌜ (r ≡ getD (ordered (now (s .entry)) reversed) i 0) × (r < 256) ⌝ }
 {
     if reversed {
-        return wide(s[s.len() - 1 - i]);
+        return wide64(s[s.len() - 1 - i]);
     }
-    wide(s[i])
+    wide64(s[i])
 }
 
 // The unsigned number of the bytes, by Horner's rule.

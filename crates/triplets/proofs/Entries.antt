@@ -21,7 +21,7 @@ use Rattle.fdoca.proofs.Tests.{and-left, and-right}
 use Rattle.fdoca.proofs.Account.{big-two}
 use Rattle.field_types.specs.Rows.{prefixOf, ruleFor}
 use Rattle.field_types.specs.Parameters.{layoutNumber}
-use Rattle.field_types.proofs.Pairs.{two-at}
+use Rattle.numbers.proofs.Pairs.{two-at}
 use Rattle.plans.specs.Plan.{entryOf}
 use Rattle.plans.specs.Tied.{lowerOf}
 use Rattle.triplets.specs.Judged.{extentOr1}

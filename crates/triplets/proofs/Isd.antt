@@ -11,7 +11,7 @@ use borrow.Author.Tests.{eq-eqb, ne-eqb, eqb-true}
 use Rattle.fdoca.specs.Basics.{if_then_else_, elem, big}
 use Rattle.fdoca.specs.Triplet.{subsetOf, versionOf}
 use Rattle.fdoca.specs.Check.{goodLengthISD, goodISD, checkISD}
-use Rattle.field_types.proofs.Pairs.{two-at}
+use Rattle.numbers.proofs.Pairs.{two-at}
 use Rattle.triplets.specs.Judged.{JudgedISD}
 use Rattle.triplets.proofs.Outcomes.{refused-outcome, found-outcome}
 

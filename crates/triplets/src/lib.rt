@@ -103,7 +103,7 @@ fn extent(t: &[u8], at: usize) -> usize
     if t.len() < at + 2 {
         return 1;
     }
-    field_types::pair(t[at], t[at + 1])
+    numbers::pair(t[at], t[at + 1])
 }
 
 // The product of an SDA's lower extents.
@@ -147,7 +147,7 @@ pub fn judge_sda(t: &[u8], rows: &[u8; 256], starts: &[u16; 256]) -> Judged
     if layout == field_types::NO_LAYOUT {
         return refused(6);
     }
-    let id = field_types::wide(t[2]);
+    let id = numbers::wide(t[2]);
     if starts[id] != NOWHERE {
         return refused(7);
     }
@@ -191,13 +191,13 @@ fn add_group(start: u16, size: u32, taken: u8, factor: u8, sum: usize) -> Sum
     if factor == 0 {
         return refusal(9);
     }
-    let times = field_types::wide(factor);
+    let times = numbers::wide(factor);
     let count = low(size);
     if taken == 0 {
         return total(sum, times * count);
     }
     let lower = high(size);
-    let part = field_types::wide(taken) * lower;
+    let part = numbers::wide(taken) * lower;
     if lower == 0 {
         return refusal(9);
     }
@@ -212,7 +212,7 @@ fn add_groups(t: &[u8], starts: &[u16; 256], sizes: &[u32; 256], sum: usize) -> 
     let mut n = sum;
     let mut g = 3;
     while g < t.len() {
-        let id = field_types::wide(t[g]);
+        let id = numbers::wide(t[g]);
         let added = add_group(starts[id], sizes[id], t[g + 1], t[g + 2], n);
         if added.number != 0 {
             return added;
@@ -237,7 +237,7 @@ pub fn judge_rlo(t: &[u8], starts: &[u16; 256], sizes: &[u32; 256]) -> Sum
     if t[2] == 0 {
         return refusal(6);
     }
-    let own = field_types::wide(t[2]);
+    let own = numbers::wide(t[2]);
     if starts[own] != NOWHERE {
         return refusal(7);
     }
@@ -292,7 +292,7 @@ fn isd_good(t: &[u8]) -> bool
     if t[2] != 0 {
         return false;
     }
-    if !subset_good(field_types::pair(t[3], t[4])) {
+    if !subset_good(numbers::pair(t[3], t[4])) {
         return false;
     }
     if t.len() < 6 {
@@ -320,21 +320,15 @@ pub fn judge_isd(t: &[u8], p: usize) -> u8
     0
 }
 
-fn wide64(b: u8) -> u64
-    ensures { λ r. ⌜ (r ≡ b) × (r < 256) ⌝ }
-{
-    b as u64
-}
-
 // The plan's entry for an SDA's field.
 fn plan_entry(t: &[u8], layout: u8) -> u64
     requires { ⌜ (goodLengthSDA (now t) ≡ true) × (layout ≡ layoutNumber (codeOf (now t))) ⌝ }
     ensures { λ r. ⌜ EntryOf (now (t .entry)) r ⌝ }
 {
-    let mode = wide64(t[9]) + 256 * wide64(layout);
-    let code = wide64(t[3]) + 256 * mode;
-    let id = wide64(t[2]) + 256 * code;
-    let length = wide64(t[10]) * 256 + wide64(t[11]);
+    let mode = numbers::wide64(t[9]) + 256 * numbers::wide64(layout);
+    let code = numbers::wide64(t[3]) + 256 * mode;
+    let id = numbers::wide64(t[2]) + 256 * code;
+    let length = numbers::wide64(t[10]) * 256 + numbers::wide64(t[11]);
     length + 65536 * id
 }
 
@@ -361,7 +355,7 @@ pub fn put_sda(
     requires { ⌜ (goodLengthSDA (now t) ≡ true) × (goodSDA (now t) ≡ true) × (p < 4096) × (judged .count ≡ product (extentsOf (now t))) × (judged .count ≤ 4096) × (judged .layout ≡ layoutNumber (codeOf (now t))) ⌝ }
     ensures { λ _. ⌜ PutSDA (now (t .entry)) p (now (starts .entry)) (now (sizes .entry)) (now (entries .entry)) (now (starts .exit)) (now (sizes .exit)) (now (entries .exit)) ⌝ }
 {
-    let id = field_types::wide(t[2]);
+    let id = numbers::wide(t[2]);
     let lower = lower_of(t);
     starts[id] = p as u16;
     sizes[id] = (judged.count + 65536 * lower) as u32;

@@ -3,10 +3,10 @@
 use Prim.Native.Nat.{ℕ, _+_, _-_, _*_, _/_, _%_, _<_, _≤_}
 use mathlib.Core.Path.{_≡_, refl, sym, ap, _∙_}
 use mathlib.Core.List.{List, [], _∷_, _++_, map, map-append, append-nil}
-use native.Mathlib.Nat.{le-of-eq}
 use native.Mathlib.Omega.{arith}
 use lib.ListN.{length, take, drop, length-drop}
-use lib.Seq.{append-snoc, drop-drop, take-all}
+use lib.Seq.{append-snoc, drop-drop}
+use borrow.Rule.Slice.PartAt.{part-to-end}
 use borrow.Author.Tests.{lt-ltb, le-ltb}
 use Rattle.fdoca.specs.Basics.{Result, refuse, ok, _>>=_}
 use Rattle.fdoca.specs.FieldType.{nullable}
@@ -186,8 +186,7 @@ module _ (m : Measured) (e : ℕ) (s : List ℕ) (at : ℕ)
   pub place-measured : m ≡ answer (measureEntry e (drop at s))
   unfolding measureEntry
   place-measured =
-      let q : take (length s - at) (drop at s) ≡ drop at s = take-all (length s - at) (drop at s) (le-of-eq (length-drop at s)) in
-      rw q at h
+      rw (part-to-end s at) at h
 
   pub stays-inside : at ≤ length s → at + long m ≤ length s
   unfolding measureEntry

@@ -4,10 +4,9 @@ use Prim.Native.Nat.{ℕ, zero, suc, _-_, _/_, _%_, _<_, _≤_}
 use mathlib.Core.Path.{_≡_, refl, ap, _∙_}
 use mathlib.Core.List.{List, [], _∷_, map}
 use mathlib.Core.Option.{some}
-use native.Mathlib.Nat.{le-of-eq}
 use native.Mathlib.Omega.{arith}
-use lib.ListN.{length, getD, take, drop, getElem?, length-map, length-drop}
-use lib.Seq.{take-all}
+use lib.ListN.{length, getD, take, drop, getElem?, length-map}
+use borrow.Rule.Slice.PartAt.{part-to-end}
 use Rattle.fdoca.specs.Basics.{Result, refuse, ok, _>>=_, the}
 use Rattle.fdoca.specs.FieldType.{nullable}
 use Rattle.fdoca.specs.Item.{Field, item, measureItem}
@@ -38,7 +37,7 @@ module _ (s : List ℕ) (e : ℕ) (n : Note) (h : MarkIn s e n) where
   entry-is = rw (h .mark) (entry-part (n .field) (n .start) (h .proper))
 
   here : take (length s - e / 281474976710656) (drop (e / 281474976710656) s) ≡ drop (n .start) s
-  here = rw start-is (take-all (length s - n .start) (drop (n .start) s) (le-of-eq (length-drop (n .start) s)))
+  here = rw start-is (part-to-end s (n .start))
 
   item-here : measureItem (nullable (e / 16777216 % 256)) (layoutOf (e / 1099511627776 % 256)) (e / 4294967296 % 256) (e % 65536) (take (length s - e / 281474976710656) (drop (e / 281474976710656) s))
       ≡ item (n .isNull) (n .prefix) (n .value) (n .padding)

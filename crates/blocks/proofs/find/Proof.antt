@@ -18,20 +18,11 @@ not-found-requires-2 c κs = search needs
 returns-2 : tie.Need-returns-2
 returns-2 c = search (item-refused)
 
-cast-if3 : tie.Need-cast-if3
-cast-if3 c = search needs
-
-find-few-requires : tie.Need-find-few-requires
-find-few-requires c κs = search (needs, ready)
+find-planned-requires : tie.Need-find-planned-requires
+find-planned-requires c κs = search (needs, ready)
 
 returns-3 : tie.Need-returns-3
 returns-3 c = search (item-fine)
-
-find-many-requires : tie.Need-find-many-requires
-find-many-requires c κs = search (needs, ready)
-
-returns-4 : tie.Need-returns-4
-returns-4 c = search (item-fine)
 
 pub find-spec : {M : Type 1} → statement M
 find-spec =
@@ -42,8 +33,5 @@ find-spec =
     examine-requires
     not-found-requires-2
     returns-2
-    cast-if3
-    find-few-requires
-    returns-3
-    find-many-requires
-    returns-4)
+    find-planned-requires
+    returns-3)

@@ -24,23 +24,14 @@ add-if3 c = search needs
 returns-3 : tie.Need-returns-3
 returns-3 c = search (list-small)
 
-list-few-requires : tie.Need-list-few-requires
-list-few-requires c κs = search (needs, ready)
+list-planned-requires : tie.Need-list-planned-requires
+list-planned-requires c κs = search (needs, ready)
 
 same-length : tie.Need-same-length
 same-length c = search needs
 
 returns-4 : tie.Need-returns-4
 returns-4 c = search (list-fine)
-
-list-many-requires : tie.Need-list-many-requires
-list-many-requires c κs = search (needs, ready)
-
-same-length-2 : tie.Need-same-length-2
-same-length-2 c = search needs
-
-returns-5 : tie.Need-returns-5
-returns-5 c = search (list-fine)
 
 pub list-spec : {M : Type 1} → statement M
 list-spec =
@@ -53,9 +44,6 @@ list-spec =
     mul-if3
     add-if3
     returns-3
-    list-few-requires
+    list-planned-requires
     same-length
-    returns-4
-    list-many-requires
-    same-length-2
-    returns-5)
+    returns-4)

@@ -1,4 +1,4 @@
-use Rattle.descriptors.proofs.Closing.{close-row, close-none, row-before, held-small}
+use Rattle.descriptors.proofs.Closing.{close-row, close-none, row-long, row-before, held-small}
 use borrow.Author.Tests.{not-true, not-false}
 use borrow.Author.Needs.{needs}
 use Rattle.descriptors.proofs.close.Statement.{statement}
@@ -8,7 +8,7 @@ returns : tie.Need-returns
 returns c = search (close-none, not-true)
 
 row-place-requires : tie.Need-row-place-requires
-row-place-requires c κs = search (needs, row-before, held-small, not-false)
+row-place-requires c κs = search (needs, row-long, row-before, held-small, not-false)
 
 wide-requires : tie.Need-wide-requires
 wide-requires c κs = search needs

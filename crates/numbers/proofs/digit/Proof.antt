@@ -3,26 +3,26 @@ use Rattle.numbers.proofs.Digits.{digit-back, digit-front}
 use Rattle.numbers.proofs.digit.Statement.{statement}
 use Rattle.numbers.proofs.digit.Tie as tie
 
-sub-wide : tie.Need-sub-wide
-sub-wide c = search needs
+sub-wide64 : tie.Need-sub-wide64
+sub-wide64 c = search needs
 
-sub-wide-2 : tie.Need-sub-wide-2
-sub-wide-2 c = search needs
+sub-wide64-2 : tie.Need-sub-wide64-2
+sub-wide64-2 c = search needs
 
-shared-slice-read-wide : tie.Need-shared-slice-read-wide
-shared-slice-read-wide c = search needs
+shared-slice-read-wide64 : tie.Need-shared-slice-read-wide64
+shared-slice-read-wide64 c = search needs
 
-wide-requires : tie.Need-wide-requires
-wide-requires c κs = search needs
+wide64-requires : tie.Need-wide64-requires
+wide64-requires c κs = search needs
 
 returns : tie.Need-returns
 returns c = search (needs, digit-back)
 
-shared-slice-read-wide-2 : tie.Need-shared-slice-read-wide-2
-shared-slice-read-wide-2 c = search needs
+shared-slice-read-wide64-2 : tie.Need-shared-slice-read-wide64-2
+shared-slice-read-wide64-2 c = search needs
 
-wide-requires-2 : tie.Need-wide-requires-2
-wide-requires-2 c κs = search needs
+wide64-requires-2 : tie.Need-wide64-requires-2
+wide64-requires-2 c κs = search needs
 
 returns-2 : tie.Need-returns-2
 returns-2 c = search (needs, digit-front)
@@ -31,11 +31,11 @@ pub digit-spec : {M : Type 1} → statement M
 digit-spec =
     tie.close
     (tie.spec
-    sub-wide
-    sub-wide-2
-    shared-slice-read-wide
-    wide-requires
+    sub-wide64
+    sub-wide64-2
+    shared-slice-read-wide64
+    wide64-requires
     returns
-    shared-slice-read-wide-2
-    wide-requires-2
+    shared-slice-read-wide64-2
+    wide64-requires-2
     returns-2)

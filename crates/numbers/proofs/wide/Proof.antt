@@ -1,6 +1,6 @@
 use borrow.Author.Needs.{needs}
-use Rattle.field_types.proofs.wide.Statement.{statement}
-use Rattle.field_types.proofs.wide.Tie as tie
+use Rattle.numbers.proofs.wide.Statement.{statement}
+use Rattle.numbers.proofs.wide.Tie as tie
 
 returns : tie.Need-returns
 returns c = search needs

@@ -1,7 +1,7 @@
 use borrow.Author.Needs.{needs}
 use Rattle.fdoca.specs.Basics.{big}
-use Rattle.field_types.proofs.pair.Statement.{statement}
-use Rattle.field_types.proofs.pair.Tie as tie
+use Rattle.numbers.proofs.pair.Statement.{statement}
+use Rattle.numbers.proofs.pair.Tie as tie
 
 mul-result : tie.Need-mul-result
 mul-result c = search needs
