@@ -1,17 +1,26 @@
 /*
- * Reads FD:OCA data blocks: checks a descriptor, lists the items of a block that it describes, reads a whole-number item.
+ * Reads FD:OCA data blocks: checks a descriptor, lists the items of a block that it describes, tells an item's state and
+ * where its value lies, reads a whole-number item.
+ *
+ * For C99 or later. The library is proved and made by `tools/build panel`, and a program links it by
+ *
+ *     cc -std=c99 -Iinclude program.c target/staticlib/libpanel.a
  *
  * Every call returns a number: 0 if it accepts what it was given, else the first reason to refuse it (enum fdoca_number).
  * With a refusal goes a place, an offset in the descriptor or in the data, as told there. Every result is written, also on
- * a refusal: then count, null mark and value are 0. Only a list keeps its old contents on a refusal.
+ * a refusal: then all but number and place are 0. Only a list keeps its old contents on a refusal.
  *
  * A call takes any bytes, allocates nothing and keeps nothing for the next call. Several threads may make calls at once.
+ *
+ * What a call costs: fdoca_check goes once over the descriptor. Every other call goes over the descriptor and the whole
+ * block, also if it tells of one item: to ask for each of n items is to walk over the block n times. So read many items by
+ * one list, and ask for single items only where needed.
  *
  * What must hold of the pointers:
  *   - Each is valid for its size, also if the size is 0: NULL is not. A caller that may have NULL where a size is 0 makes
  *     the calls fdoca_.._null_ok at the end of this file.
- *   - Those that a call writes through (list, place, items, is_null, value) overlap neither each other nor anything else
- *     that the call is given. What they point to need not be initialized.
+ *   - Those that a call writes through, which are all that are not const, overlap neither each other nor anything else that
+ *     the call is given. What they point to need not be initialized.
  */
 #ifndef FDOCA_H
 #define FDOCA_H
@@ -107,6 +116,23 @@ enum fdoca_number {
 };
 
 /*
+ * The field types: the type code, in decimal with that of the nullable form behind it, and what the value of an item is. A
+ * nullable form has the code plus X'80'; its items begin with a null indicator of one byte, and only they can be null. Which
+ * characters the bytes of a string stand for is not told.
+ */
+enum fdoca_type {
+    FDOCA_TYPE_FIXED = 0x01,          /* 1, 129: a string of bytes, as long as its field */
+    FDOCA_TYPE_VARIABLE = 0x02,       /* 2, 130: a string of bytes, with a length of two bytes before it */
+    FDOCA_TYPE_TERMINATED = 0x03,     /* 3, 131: a string of bytes, with a zero byte behind it */
+    FDOCA_TYPE_SHORT = 0x07,          /* 7, 135: a string of bytes, with a length of one byte before it */
+    FDOCA_TYPE_WHOLE = 0x23,          /* 35, 163: a signed whole number, most significant byte first */
+    FDOCA_TYPE_WHOLE_REVERSED = 0x24, /* 36, 164: a signed whole number, least significant byte first */
+    FDOCA_TYPE_HEX_FLOAT = 0x40,      /* 64, 192: a hexadecimal float */
+    FDOCA_TYPE_FLOAT_REVERSED = 0x47, /* 71, 199: a binary float, least significant byte first */
+    FDOCA_TYPE_FLOAT = 0x48           /* 72, 200: a binary float, most significant byte first */
+};
+
+/*
  * Checks a descriptor.
  *
  * items: how many items it describes.
@@ -122,12 +148,37 @@ uint32_t fdoca_check(const uint8_t *descriptor, size_t descriptor_size, uint32_t
  *     list[1]              the block's length in bytes
  *     list[2 + k]          the start of item k, an offset in the data
  *     list[2 + n + k]      the id of item k's SDA
- * and leaves every entry beyond as it is. On a refusal it leaves the whole list as it is.
+ * and leaves every entry beyond as it is. An item ends where the next one starts, the last item at list[1]. On a refusal the
+ * call leaves the whole list as it is.
  * list_size: how many entries of 32 bits the list has, at least FDOCA_LIST_SIZE(n). FDOCA_MAX_LIST is enough for any block.
  * Refuses by 1 to 16.
  */
 uint32_t fdoca_list(const uint8_t *descriptor, size_t descriptor_size, const uint8_t *data, size_t data_size,
                     uint32_t *list, size_t list_size, uint32_t *place);
+
+/*
+ * Tells an item's state.
+ *
+ * item: the item's number, from 0.
+ * is_null: 1 if the item is null, else 0.
+ * type_code: the code of its field type or of the nullable form (enum fdoca_type).
+ * value: the length of its value in bytes, without what stands before the value and behind it; 0 if the item is null.
+ * Refuses by 1 to 11 and 13 to 17.
+ */
+uint32_t fdoca_state(const uint8_t *descriptor, size_t descriptor_size, const uint8_t *data, size_t data_size,
+                     uint32_t item, uint32_t *place, uint32_t *is_null, uint32_t *type_code, uint32_t *value);
+
+/*
+ * Tells where in the data an item's value lies.
+ *
+ * item: the item's number, from 0.
+ * offset: where the value begins; that of a null is right behind its null indicator.
+ * length: how many bytes it has, 0 if the item is null.
+ * Neither offset nor offset + length is over data_size, also on a refusal.
+ * Refuses by 1 to 11 and 13 to 17, as fdoca_state does.
+ */
+uint32_t fdoca_lend(const uint8_t *descriptor, size_t descriptor_size, const uint8_t *data, size_t data_size,
+                    uint32_t item, uint32_t *place, uint32_t *offset, uint32_t *length);
 
 /*
  * Reads a whole number.
@@ -149,6 +200,17 @@ static inline uint32_t fdoca_item_start(const uint32_t *list, uint32_t k)
 static inline uint32_t fdoca_item_id(const uint32_t *list, uint32_t k)
 {
     return list[2 + (size_t)list[0] + k];
+}
+
+/* The plain type of a type code, and whether the code is that of a nullable form. */
+static inline uint32_t fdoca_plain_type(uint32_t type_code)
+{
+    return type_code & 0x7F;
+}
+
+static inline int fdoca_is_nullable(uint32_t type_code)
+{
+    return (type_code & 0x80) != 0;
 }
 
 /* A number in words. */
@@ -219,6 +281,26 @@ static inline uint32_t fdoca_list_null_ok(const uint8_t *descriptor, size_t desc
 
     return fdoca_list(descriptor_size == 0 ? &none : descriptor, descriptor_size, data_size == 0 ? &none : data,
                       data_size, list_size == 0 ? &no_entry : list, list_size, place);
+}
+
+static inline uint32_t fdoca_state_null_ok(const uint8_t *descriptor, size_t descriptor_size, const uint8_t *data,
+                                           size_t data_size, uint32_t item, uint32_t *place, uint32_t *is_null,
+                                           uint32_t *type_code, uint32_t *value)
+{
+    const uint8_t none = 0;
+
+    return fdoca_state(descriptor_size == 0 ? &none : descriptor, descriptor_size, data_size == 0 ? &none : data,
+                       data_size, item, place, is_null, type_code, value);
+}
+
+static inline uint32_t fdoca_lend_null_ok(const uint8_t *descriptor, size_t descriptor_size, const uint8_t *data,
+                                          size_t data_size, uint32_t item, uint32_t *place, uint32_t *offset,
+                                          uint32_t *length)
+{
+    const uint8_t none = 0;
+
+    return fdoca_lend(descriptor_size == 0 ? &none : descriptor, descriptor_size, data_size == 0 ? &none : data,
+                      data_size, item, place, offset, length);
 }
 
 static inline uint32_t fdoca_whole_number_null_ok(const uint8_t *descriptor, size_t descriptor_size,

@@ -1,79 +1,15 @@
 /*
- * Tests of the C calls. Descriptors and data are written in hexadecimal. The last line printed is "N passed, M failed", and
+ * Tests of the C calls: checks and lists, refusals of every call, limits. The last line printed is "N passed, M failed", and
  * the exit status is 0 if none failed.
  */
-#include <inttypes.h>
-#include <stdbool.h>
-#include <stdint.h>
-#include <stdio.h>
-#include <stdlib.h>
-#include <string.h>
+#include "support.h"
 
-#include "fdoca.h"
-
-#define COUNT(array) (sizeof(array) / sizeof *(array))
-
-/* SDAs of id B1 without extents, of a field type and a field length; V is variable bytes, Z null-terminated bytes. */
-#define S(type, length) "0C70B1" type "000000000000" length
-#define V(mode, length) "0C70B102" "0000000000" mode length
-#define Z(mode, length) "0C70B103" "0000000000" mode length
-
-/* What is behind every pointer before a call. */
-#define OLD 0xA5A5A5A5u
-#define OLD_VALUE INT64_C(-0x5A5A5A5A5A5A5A5B)
+/* SDAs of id B1 of variable and of null-terminated bytes. */
+#define V(mode, length) M("02", mode, length)
+#define Z(mode, length) M("03", mode, length)
 
 /* Entries behind the list that a call is not told of. */
 #define GUARD 64
-
-struct bytes {
-    uint8_t *at;
-    size_t size;
-};
-
-static unsigned passed, failed;
-
-static void expect(bool good, const char *group, const char *name)
-{
-    if (good) {
-        passed++;
-    } else {
-        failed++;
-        printf("failed: %s: %s\n", group, name);
-    }
-}
-
-static void *room(size_t size)
-{
-    void *at = malloc(size == 0 ? 1 : size);
-
-    if (at == NULL) {
-        printf("out of memory\n");
-        exit(1);
-    }
-    return at;
-}
-
-static struct bytes zeros(size_t size)
-{
-    struct bytes bytes = {room(size), size};
-
-    memset(bytes.at, 0, size);
-    return bytes;
-}
-
-static unsigned digit(char c)
-{
-    return c <= '9' ? (unsigned)(c - '0') : (unsigned)(c - 'A') + 10;
-}
-
-static struct bytes hex(const char *text)
-{
-    struct bytes bytes = zeros(strlen(text) / 2);
-
-    for (size_t i = 0; i < bytes.size; i++)
-        bytes.at[i] = (uint8_t)(16 * digit(text[2 * i]) + digit(text[2 * i + 1]));
-    return bytes;
-}
 
 static uint32_t *old_list(size_t size)
 {
@@ -92,15 +28,7 @@ static bool still_old(const uint32_t *list, size_t from, size_t size)
     return true;
 }
 
-/* ---- one call each, with all that it gives */
-
-static bool check_gives(struct bytes d, uint32_t number, uint32_t place, uint32_t items)
-{
-    uint32_t got_place = OLD, got_items = OLD;
-    uint32_t got = fdoca_check(d.at, d.size, &got_place, &got_items);
-
-    return got == number && got_place == place && got_items == items;
-}
+/* ---- the list call, with all that it gives, and what the calls for one item refuse alike */
 
 static bool list_refuses(struct bytes d, struct bytes s, size_t list_size, uint32_t number, uint32_t place)
 {
@@ -126,14 +54,12 @@ static bool list_gives(struct bytes d, struct bytes s, size_t size, const uint32
     return good;
 }
 
-static bool whole_gives(struct bytes d, struct bytes s, uint32_t item, uint32_t number, uint32_t place, uint32_t is_null,
-                        int64_t value)
+static void expect_refused(struct bytes d, struct bytes s, uint32_t item, uint32_t number, uint32_t place,
+                           const char *name)
 {
-    uint32_t got_place = OLD, got_null = OLD;
-    int64_t got_value = OLD_VALUE;
-    uint32_t got = fdoca_whole_number(d.at, d.size, s.at, s.size, item, &got_place, &got_null, &got_value);
-
-    return got == number && got_place == place && got_null == is_null && got_value == value;
+    expect(state_gives(d, s, item, number, place, 0, 0, 0), "state refused", name);
+    expect(lend_gives(d, s, item, number, place, 0, 0), "lend refused", name);
+    expect(whole_gives(d, s, item, number, place, 0, 0), "whole number refused", name);
 }
 
 /* ---- descriptors: number, place and items of the check */
@@ -197,7 +123,7 @@ static void test_refused_descriptors(void)
         if (c->number != 0) {
             expect(list_refuses(d, none, FDOCA_MAX_LIST, c->number, c->place), "list, bad descriptor", c->name);
             expect(list_refuses(d, none, 0, c->number, c->place), "empty list, bad descriptor", c->name);
-            expect(whole_gives(d, none, 0, c->number, c->place, 0, 0), "whole number, bad descriptor", c->name);
+            expect_refused(d, none, 0, c->number, c->place, c->name);
         }
         free(d.at);
     }
@@ -291,8 +217,8 @@ static void test_block(const char *name, struct bytes d, struct bytes s, const s
     expect(list_refuses(d, s, size - 1, 12, 0), "list one entry short", name);
     expect(list_refuses(d, s, 0, 12, 0), "list of no entries", name);
     expect(list_reads(list), "start and id", name);
-    expect(whole_gives(d, s, items, 17, 0, 0, 0), "item past the last", name);
-    expect(whole_gives(d, s, UINT32_MAX, 17, 0, 0, 0), "largest item number", name);
+    expect_refused(d, s, items, 17, 0, name);
+    expect_refused(d, s, UINT32_MAX, 17, 0, name);
     free(list);
 }
 
@@ -349,62 +275,8 @@ static void test_refusals(void)
 
         expect(list_refuses(d, s, FDOCA_MAX_LIST, c->number, c->place), "list", c->name);
         expect(list_refuses(d, s, 0, 12, 0), "list too small before the data", c->name);
-        expect(whole_gives(d, s, 0, c->number, c->place, 0, 0), "whole number", c->name);
-        expect(whole_gives(d, s, 9, c->number, c->place, 0, 0), "no such item, but bad data first", c->name);
-        free(d.at);
-        free(s.at);
-    }
-}
-
-/* ---- whole numbers */
-
-struct whole_case {
-    const char *name;
-    const char *descriptor;
-    const char *data;
-    uint32_t item, number, place, is_null;
-    int64_t value;
-};
-
-static const struct whole_case wholes[] = {
-    {"-2", S("23", "0002"), "FFFE", 0, 0, 0, 0, -2},
-    {"-2 reversed", S("24", "0002"), "FEFF", 0, 0, 0, 0, -2},
-    {"258", S("23", "0002"), "0102", 0, 0, 0, 0, 258},
-    {"258 reversed", S("24", "0002"), "0201", 0, 0, 0, 0, 258},
-    {"2 bytes, least", S("23", "0002"), "8000", 0, 0, 0, 0, INT16_MIN},
-    {"2 bytes, most", S("23", "0002"), "7FFF", 0, 0, 0, 0, INT16_MAX},
-    {"2 bytes reversed, least", S("24", "0002"), "0080", 0, 0, 0, 0, INT16_MIN},
-    {"2 bytes reversed, most", S("24", "0002"), "FF7F", 0, 0, 0, 0, INT16_MAX},
-    {"4 bytes, least", S("23", "0004"), "80000000", 0, 0, 0, 0, INT32_MIN},
-    {"4 bytes, most", S("23", "0004"), "7FFFFFFF", 0, 0, 0, 0, INT32_MAX},
-    {"4 bytes, -1", S("23", "0004"), "FFFFFFFF", 0, 0, 0, 0, -1},
-    {"4 bytes reversed, least", S("24", "0004"), "00000080", 0, 0, 0, 0, INT32_MIN},
-    {"4 bytes reversed, most", S("24", "0004"), "FFFFFF7F", 0, 0, 0, 0, INT32_MAX},
-    {"8 bytes, least", S("23", "0008"), "8000000000000000", 0, 0, 0, 0, INT64_MIN},
-    {"8 bytes, most", S("23", "0008"), "7FFFFFFFFFFFFFFF", 0, 0, 0, 0, INT64_MAX},
-    {"8 bytes, 2 to the 32", S("23", "0008"), "0000000100000000", 0, 0, 0, 0, INT64_C(4294967296)},
-    {"8 bytes reversed, least", S("24", "0008"), "0000000000000080", 0, 0, 0, 0, INT64_MIN},
-    {"8 bytes reversed, most", S("24", "0008"), "FFFFFFFFFFFFFF7F", 0, 0, 0, 0, INT64_MAX},
-    {"8 bytes reversed, -1", S("24", "0008"), "FFFFFFFFFFFFFFFF", 0, 0, 0, 0, -1},
-    {"0", S("23", "0008"), "0000000000000000", 0, 0, 0, 0, 0},
-    {"nullable", S("A3", "0002"), "00FFFE", 0, 0, 0, 0, -2},
-    {"null", S("A3", "0002"), "80", 0, 0, 0, 1, 0},
-    {"null reversed", S("A4", "0008"), "FF", 0, 0, 0, 1, 0},
-    {"first of two", S("A3", "0002") "0671A1B10002", "00000780", 0, 0, 0, 0, 7},
-    {"second of two", S("A3", "0002") "0671A1B10002", "00000780", 1, 0, 0, 1, 0},
-    {"third of two", S("A3", "0002") "0671A1B10002", "00000780", 2, 17, 0, 0, 0},
-    {"bytes", S("01", "0002") "0671A1B10002", "00000000", 1, 18, 2, 0, 0},
-    {"null bytes", S("81", "0002") "0671A1B10002", "8080", 1, 18, 1, 0, 0},
-    {"float", S("48", "0008"), "4065E23D70A3D70A", 0, 18, 0, 0, 0},
-};
-
-static void test_wholes(void)
-{
-    for (size_t i = 0; i < COUNT(wholes); i++) {
-        const struct whole_case *c = &wholes[i];
-        struct bytes d = hex(c->descriptor), s = hex(c->data);
-
-        expect(whole_gives(d, s, c->item, c->number, c->place, c->is_null, c->value), "whole number", c->name);
+        expect_refused(d, s, 0, c->number, c->place, c->name);
+        expect_refused(d, s, 9, c->number, c->place, c->name); /* bad data come before an item that is not there */
         free(d.at);
         free(s.at);
     }
@@ -420,6 +292,8 @@ static void test_largest_list(void)
     s.at[FDOCA_MAX_DATA - 1] = 7;
     expect(FDOCA_LIST_SIZE(items_of(runs)) == FDOCA_MAX_LIST, "limits", "entries of the largest list");
     test_block("4,096 items in 32,768 bytes", d, s, runs);
+    expect(state_gives(d, s, 4095, 0, 0, 0, 0x23, 8), "limits", "state of the last of 4,096 items");
+    expect(lend_gives(d, s, 4095, 0, 0, FDOCA_MAX_DATA - 8, 8), "limits", "value of the last of 4,096 items");
     expect(whole_gives(d, s, 4095, 0, 0, 0, 7), "limits", "last of 4,096 items");
     free(d.at);
     free(s.at);
@@ -433,10 +307,10 @@ static void test_oversize(void)
     expect(check_gives(largest, 2, 0, 0), "limits", "descriptor of 4,096 bytes");
     expect(check_gives(larger, 1, 0, 0), "limits", "descriptor of 4,097 bytes");
     expect(list_refuses(larger, no_data, FDOCA_MAX_LIST, 1, 0), "limits", "list, descriptor of 4,097 bytes");
-    expect(whole_gives(larger, no_data, 0, 1, 0, 0, 0), "limits", "whole number, descriptor of 4,097 bytes");
+    expect_refused(larger, no_data, 0, 1, 0, "descriptor of 4,097 bytes");
     expect(list_refuses(d, data, FDOCA_MAX_LIST, 1, 0), "limits", "list, data of 32,769 bytes");
     expect(list_refuses(largest, data, 0, 1, 0), "limits", "data of 32,769 bytes before a bad descriptor");
-    expect(whole_gives(d, data, 0, 1, 0, 0, 0), "limits", "whole number, data of 32,769 bytes");
+    expect_refused(d, data, 0, 1, 0, "data of 32,769 bytes");
     free(d.at);
     free(no_data.at);
     free(data.at);
@@ -448,9 +322,8 @@ static void test_oversize(void)
 
 static void test_null_pointers(void)
 {
-    struct bytes d = hex(S("01", "0000")), number = hex(S("23", "0002")), s = hex("0007");
-    uint32_t place = OLD, items = OLD, is_null = OLD, list[4] = {OLD, OLD, OLD, OLD};
-    int64_t value = OLD_VALUE;
+    struct bytes d = hex(S("01", "0000"));
+    uint32_t place = OLD, items = OLD, list[4] = {OLD, OLD, OLD, OLD};
     uint32_t got = fdoca_check_null_ok(NULL, 0, &place, &items);
 
     expect(got == 11 && place == 0 && items == 0, "null", "check of no descriptor");
@@ -465,17 +338,7 @@ static void test_null_pointers(void)
     got = fdoca_list_null_ok(d.at, d.size, NULL, 0, list, 4, &place);
     expect(got == 0 && place == 0 && list[0] == 1 && list[1] == 0 && list[2] == 0 && list[3] == 0xB1, "null",
            "list of no data");
-
-    place = OLD;
-    got = fdoca_whole_number_null_ok(NULL, 0, NULL, 0, 0, &place, &is_null, &value);
-    expect(got == 11 && place == 0 && is_null == 0 && value == 0, "null", "whole number of nothing");
-    got = fdoca_whole_number_null_ok(number.at, number.size, NULL, 0, 0, &place, &is_null, &value);
-    expect(got == 13 && place == 0 && is_null == 0 && value == 0, "null", "whole number of no data");
-    got = fdoca_whole_number_null_ok(number.at, number.size, s.at, s.size, 0, &place, &is_null, &value);
-    expect(got == 0 && place == 0 && is_null == 0 && value == 7, "null", "whole number");
     free(d.at);
-    free(number.at);
-    free(s.at);
 }
 
 static const uint32_t numbers[] = {
@@ -523,11 +386,9 @@ int main(void)
     test_blocks();
     test_figures();
     test_refusals();
-    test_wholes();
     test_largest_list();
     test_oversize();
     test_null_pointers();
     test_words();
-    printf("%u passed, %u failed\n", passed, failed);
-    return failed == 0 && passed > 0 ? 0 : 1;
+    return finish();
 }

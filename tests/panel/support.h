@@ -1,0 +1,119 @@
+/*
+ * What the C tests share: descriptors and data written in hexadecimal, calls that are compared with all that they give, and
+ * a count of cases.
+ */
+#ifndef SUPPORT_H
+#define SUPPORT_H
+
+#include <stdbool.h>
+#include <stdint.h>
+#include <stdio.h>
+#include <stdlib.h>
+#include <string.h>
+
+#include "fdoca.h"
+
+#define COUNT(array) (sizeof(array) / sizeof *(array))
+
+/* SDAs of id B1 without extents, of a field type, a mode and a field length; S has mode 0. */
+#define M(type, mode, length) "0C70B1" type "0000000000" mode length
+#define S(type, length) M(type, "00", length)
+
+/* What is behind every pointer before a call. */
+#define OLD 0xA5A5A5A5u
+#define OLD_VALUE INT64_C(-0x5A5A5A5A5A5A5A5B)
+
+struct bytes {
+    uint8_t *at;
+    size_t size;
+};
+
+static unsigned passed, failed;
+
+static inline void expect(bool good, const char *group, const char *name)
+{
+    if (good) {
+        passed++;
+    } else {
+        failed++;
+        printf("failed: %s: %s\n", group, name);
+    }
+}
+
+/* Prints the last line and gives the exit status, 0 if none failed. */
+static inline int finish(void)
+{
+    printf("%u passed, %u failed\n", passed, failed);
+    return failed == 0 && passed > 0 ? 0 : 1;
+}
+
+static inline void *room(size_t size)
+{
+    void *at = malloc(size == 0 ? 1 : size);
+
+    if (at == NULL) {
+        printf("out of memory\n");
+        exit(1);
+    }
+    return at;
+}
+
+static inline struct bytes zeros(size_t size)
+{
+    struct bytes bytes = {room(size), size};
+
+    memset(bytes.at, 0, size);
+    return bytes;
+}
+
+static inline unsigned digit(char c)
+{
+    return c <= '9' ? (unsigned)(c - '0') : (unsigned)(c - 'A') + 10;
+}
+
+static inline struct bytes hex(const char *text)
+{
+    struct bytes bytes = zeros(strlen(text) / 2);
+
+    for (size_t i = 0; i < bytes.size; i++)
+        bytes.at[i] = (uint8_t)(16 * digit(text[2 * i]) + digit(text[2 * i + 1]));
+    return bytes;
+}
+
+static inline bool check_gives(struct bytes d, uint32_t number, uint32_t place, uint32_t items)
+{
+    uint32_t got_place = OLD, got_items = OLD;
+    uint32_t got = fdoca_check(d.at, d.size, &got_place, &got_items);
+
+    return got == number && got_place == place && got_items == items;
+}
+
+static inline bool state_gives(struct bytes d, struct bytes s, uint32_t item, uint32_t number, uint32_t place,
+                               uint32_t is_null, uint32_t type_code, uint32_t value)
+{
+    uint32_t got_place = OLD, got_null = OLD, got_code = OLD, got_value = OLD;
+    uint32_t got = fdoca_state(d.at, d.size, s.at, s.size, item, &got_place, &got_null, &got_code, &got_value);
+
+    return got == number && got_place == place && got_null == is_null && got_code == type_code && got_value == value;
+}
+
+static inline bool lend_gives(struct bytes d, struct bytes s, uint32_t item, uint32_t number, uint32_t place,
+                              uint32_t offset, uint32_t length)
+{
+    uint32_t got_place = OLD, got_offset = OLD, got_length = OLD;
+    uint32_t got = fdoca_lend(d.at, d.size, s.at, s.size, item, &got_place, &got_offset, &got_length);
+
+    return got == number && got_place == place && got_offset == offset && got_length == length;
+}
+
+static inline bool whole_gives(struct bytes d, struct bytes s, uint32_t item, uint32_t number, uint32_t place,
+                               uint32_t is_null, int64_t value)
+{
+    uint32_t got_place = OLD, got_null = OLD;
+    int64_t got_value = OLD_VALUE;
+    uint32_t got = fdoca_whole_number(d.at, d.size, s.at, s.size, item, &got_place, &got_null, &got_value);
+
+    return got == number && got_place == place && got_null == is_null && got_value == value;
+}
+
+#endif
