@@ -1,13 +1,13 @@
 /*
- * The kiosk's panel: reads a block file, checks its descriptor, lists the items of its block, and sums a column of whole
- * numbers.
+ * The kiosk's panel: reads a block file, prints the rows of its block, and sums a column of whole numbers.
  *
  *     panel FILE [ID]
  *
  * A block file holds the descriptor's size and the data's size, four bytes each, most significant byte first, then the
- * descriptor, then the data. The column is every item whose SDA has the id ID, 1 to 255, written as 177 or 0xB1. A refusal
- * is told in words, with its number and place, on standard error. Exit status: 0 all accepted; 1 a refusal; 2 anything else
- * that went wrong.
+ * descriptor, then the data. Each item is printed as its SDA's id and its value: text in quotes, a whole number, the bytes
+ * of a float in hexadecimal, or null. The column is every item whose SDA has the id ID, 1 to 255, written as 177 or 0xB1;
+ * there must be one. A refusal is told in words, with its number and place, on standard error. Exit status: 0 all accepted;
+ * 1 a refusal; 2 anything else that went wrong.
  */
 #include <inttypes.h>
 #include <stdbool.h>
@@ -27,15 +27,37 @@ struct block {
     size_t data_size;
 };
 
+/* What the calls tell of one item: the whole number if it is one, else where its value lies in the data. */
+struct item {
+    uint32_t is_null, type_code;
+    int64_t whole;
+    uint32_t offset, length;
+};
+
 struct column {
     uint32_t items;
     uint32_t nulls;
     int64_t sum;
 };
 
+/* The part that a number's place is an offset in; NULL where there is no place to tell. */
+static const char *part_of_place(uint32_t number)
+{
+    if (number >= FDOCA_TRIPLET_TRUNCATED && number <= FDOCA_DESCRIPTOR_MISSING)
+        return "descriptor";
+    if ((number >= FDOCA_DATA_TRUNCATED && number <= FDOCA_TRAILING_DATA) || number == FDOCA_WRONG_TYPE)
+        return "data";
+    return NULL;
+}
+
 static int refused(const char *what, uint32_t number, uint32_t place)
 {
-    fprintf(stderr, "%s refused: %s (number %" PRIu32 ", place %" PRIu32 ")\n", what, fdoca_text(number), number, place);
+    const char *part = part_of_place(number);
+
+    fprintf(stderr, "%s refused: %s (number %" PRIu32 ")", what, fdoca_text(number), number);
+    if (part != NULL)
+        fprintf(stderr, ", at byte %" PRIu32 " of the %s", place, part);
+    fprintf(stderr, "\n");
     return REFUSED;
 }
 
@@ -101,11 +123,88 @@ static int load(const char *name, struct block *block)
     return status;
 }
 
-static void print_list(const uint32_t *list)
+static bool is_whole(uint32_t type_code)
 {
-    printf("items %" PRIu32 " bytes %" PRIu32 "\n", list[0], list[1]);
-    for (uint32_t k = 0; k < list[0]; k++)
-        printf("item %" PRIu32 " start %" PRIu32 " id %" PRIu32 "\n", k, fdoca_item_start(list, k), fdoca_item_id(list, k));
+    uint32_t type = fdoca_plain_type(type_code);
+
+    return type == FDOCA_TYPE_WHOLE || type == FDOCA_TYPE_WHOLE_REVERSED;
+}
+
+static bool is_float(uint32_t type_code)
+{
+    uint32_t type = fdoca_plain_type(type_code);
+
+    return type == FDOCA_TYPE_HEX_FLOAT || type == FDOCA_TYPE_FLOAT || type == FDOCA_TYPE_FLOAT_REVERSED;
+}
+
+/* Asks for an item's state, then for its whole number or where its value lies. Each is a walk over the block, which is
+ * little for what a screen shows. */
+static int ask(const struct block *block, uint32_t k, struct item *item)
+{
+    uint32_t place, value;
+    uint32_t number = fdoca_state(block->descriptor, block->descriptor_size, block->data, block->data_size, k, &place,
+                                  &item->is_null, &item->type_code, &value);
+
+    if (number != FDOCA_ACCEPTED)
+        return refused("item", number, place);
+    if (is_whole(item->type_code))
+        number = fdoca_whole_number(block->descriptor, block->descriptor_size, block->data, block->data_size, k, &place,
+                                    &item->is_null, &item->whole);
+    else
+        number = fdoca_lend(block->descriptor, block->descriptor_size, block->data, block->data_size, k, &place,
+                            &item->offset, &item->length);
+    return number == FDOCA_ACCEPTED ? ACCEPTED : refused("item", number, place);
+}
+
+/* Printable ASCII as it is, all other bytes, the quote and the backslash as \xNN. */
+static void print_text(const uint8_t *bytes, uint32_t length)
+{
+    printf("\"");
+    for (uint32_t i = 0; i < length; i++) {
+        bool as_it_is = bytes[i] >= ' ' && bytes[i] <= '~' && bytes[i] != '"' && bytes[i] != '\\';
+
+        printf(as_it_is ? "%c" : "\\x%02X", bytes[i]);
+    }
+    printf("\"");
+}
+
+static void print_hexadecimal(const uint8_t *bytes, uint32_t length)
+{
+    printf("X'");
+    for (uint32_t i = 0; i < length; i++)
+        printf("%02X", bytes[i]);
+    printf("'");
+}
+
+static void print_value(const struct block *block, const struct item *item)
+{
+    if (item->is_null)
+        printf("null");
+    else if (is_whole(item->type_code))
+        printf("%" PRId64, item->whole);
+    else if (is_float(item->type_code))
+        print_hexadecimal(block->data + item->offset, item->length);
+    else
+        print_text(block->data + item->offset, item->length);
+}
+
+/* The calls tell of items, not of rows. To this example a row begins wherever the first item's id comes again, which is so
+ * in a flat table. */
+static int print_rows(const struct block *block, const uint32_t *list)
+{
+    printf("items %" PRIu32 " bytes %" PRIu32, list[0], list[1]);
+    for (uint32_t k = 0; k < list[0]; k++) {
+        struct item item;
+        uint32_t id = fdoca_item_id(list, k);
+        int status = ask(block, k, &item);
+
+        if (status != ACCEPTED)
+            return status;
+        printf("%s%" PRIu32 " ", id == fdoca_item_id(list, 0) ? "\n" : "  ", id);
+        print_value(block, &item);
+    }
+    printf("\n");
+    return ACCEPTED;
 }
 
 static bool add(int64_t *sum, int64_t value)
@@ -145,6 +244,10 @@ static int print_sum(const struct block *block, const uint32_t *list, uint32_t i
         if (status != ACCEPTED)
             return status;
     }
+    if (column.items == 0) {
+        fprintf(stderr, "no item has the id %" PRIu32 "\n", id);
+        return UNUSABLE;
+    }
     printf("id %" PRIu32 " items %" PRIu32 " nulls %" PRIu32 " sum %" PRId64 "\n", id, column.items, column.nulls,
            column.sum);
     return ACCEPTED;
@@ -162,15 +265,10 @@ static int show_items(const struct block *block, uint32_t items, uint32_t id)
 
     uint32_t number = fdoca_list(block->descriptor, block->descriptor_size, block->data, block->data_size, list,
                                  list_size, &place);
-    int status = ACCEPTED;
+    int status = number == FDOCA_ACCEPTED ? print_rows(block, list) : refused("block", number, place);
 
-    if (number != FDOCA_ACCEPTED) {
-        status = refused("block", number, place);
-    } else {
-        print_list(list);
-        if (id != 0)
-            status = print_sum(block, list, id);
-    }
+    if (status == ACCEPTED && id != 0)
+        status = print_sum(block, list, id);
     free(list);
     return status;
 }
@@ -210,7 +308,7 @@ int main(int argc, char **argv)
     if (status == ACCEPTED)
         status = show(&block, id);
     free(block.descriptor);
-    if (fflush(stdout) != 0)
+    if (fflush(stdout) != 0 || ferror(stdout))
         return unusable("the listing cannot be written");
     return status;
 }
