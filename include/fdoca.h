@@ -37,6 +37,10 @@ extern "C" {
 #define FDOCA_MAX_DATA 32768
 #define FDOCA_MAX_ITEMS 4096
 
+/* A thread with a stack of so many bytes can make any call: this is measured. The deepest nest takes the most, 255 levels:
+ * an SDA and 254 RLOs, each with a group that refers to the one before. */
+#define FDOCA_STACK 98304
+
 /* The entries that a list of n items takes, and those of the largest list: 8,194. */
 #define FDOCA_LIST_SIZE(n) (2 + 2 * (size_t)(n))
 #define FDOCA_MAX_LIST FDOCA_LIST_SIZE(FDOCA_MAX_ITEMS)
