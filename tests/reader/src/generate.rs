@@ -7,7 +7,7 @@ mod fitting;
 mod random;
 mod structured;
 
-pub use edges::{edges, files, limits};
+pub use edges::{edges, file, files, limits};
 pub use extremes::full_descriptor;
 pub use random::Random;
 

@@ -359,7 +359,9 @@ pub fn files(seed: u64, count: usize) -> Vec<Vec<u8>> {
     files
 }
 
-fn file(descriptor: &[u8], data: &[u8]) -> Vec<u8> {
+/// A file of the dump program: descriptor size, data size (four bytes each, most
+/// significant first), descriptor, data.
+pub fn file(descriptor: &[u8], data: &[u8]) -> Vec<u8> {
     let size = |bytes: &[u8]| (bytes.len() as u32).to_be_bytes();
     [&size(descriptor)[..], &size(data), descriptor, data].concat()
 }
