@@ -2,7 +2,7 @@
 
 use std::path::Path;
 
-const ARCHIVE: &str = "target/staticlib/libprobe.a";
+const ARCHIVE: &str = "target/staticlib/libpanel.a";
 
 fn main() {
     let archive = Path::new(env!("CARGO_MANIFEST_DIR"))
@@ -13,8 +13,8 @@ fn main() {
         Ok(archive) => {
             let folder = archive.parent().unwrap_or(Path::new("/"));
             println!("cargo::rustc-link-search=native={}", folder.display());
-            println!("cargo::rustc-link-lib=static=probe");
+            println!("cargo::rustc-link-lib=static=panel");
         }
-        Err(error) => println!("cargo::error={ARCHIVE}: {error}; `rt staticlib probe` builds it"),
+        Err(error) => println!("cargo::error={ARCHIVE}: {error}; `tools/build panel` builds it"),
     }
 }

@@ -1,16 +1,16 @@
-//! The exported functions of the proved library, each with all of its results.
+//! The calls of the proved library, each with all of its results as they are given.
 
-use reader::{Refusal, State, Whole};
+use reader::Refusal;
 
 extern "C" {
-    fn probe_check(
+    fn fdoca_check(
         descriptor: *const u8,
         descriptor_length: usize,
         place: &mut u32,
         items: &mut u32,
     ) -> u32;
 
-    fn probe_list(
+    fn fdoca_list(
         descriptor: *const u8,
         descriptor_length: usize,
         data: *const u8,
@@ -20,36 +20,37 @@ extern "C" {
         place: &mut u32,
     ) -> u32;
 
-    fn probe_state(
+    fn fdoca_state(
         descriptor: *const u8,
         descriptor_length: usize,
         data: *const u8,
         data_length: usize,
         item: u32,
         place: &mut u32,
-        is_null: &mut bool,
-        type_code: &mut u8,
+        is_null: &mut u32,
+        type_code: &mut u32,
         value_length: &mut u32,
     ) -> u32;
 
-    fn probe_lend(
-        descriptor: *const u8,
-        descriptor_length: usize,
-        data: *const u8,
-        data_length: usize,
-        item: u32,
-        out: *mut u8,
-        out_length: usize,
-    ) -> usize;
-
-    fn probe_whole_number(
+    fn fdoca_lend(
         descriptor: *const u8,
         descriptor_length: usize,
         data: *const u8,
         data_length: usize,
         item: u32,
         place: &mut u32,
-        is_null: &mut bool,
+        offset: &mut u32,
+        length: &mut u32,
+    ) -> u32;
+
+    fn fdoca_whole_number(
+        descriptor: *const u8,
+        descriptor_length: usize,
+        data: *const u8,
+        data_length: usize,
+        item: u32,
+        place: &mut u32,
+        is_null: &mut u32,
         value: &mut i64,
     ) -> u32;
 }
@@ -74,22 +75,71 @@ impl<T> Answer<T> {
     }
 }
 
-impl<T: Default> From<Result<T, Refusal>> for Answer<T> {
-    fn from(result: Result<T, Refusal>) -> Answer<T> {
+impl<T, R: Default + From<T>> From<Result<T, Refusal>> for Answer<R> {
+    fn from(result: Result<T, Refusal>) -> Answer<R> {
         let (Refusal { number, place }, results) = match result {
             Ok(results) => (
                 Refusal {
                     number: 0,
                     place: 0,
                 },
-                results,
+                results.into(),
             ),
-            Err(refusal) => (refusal, T::default()),
+            Err(refusal) => (refusal, R::default()),
         };
         Answer {
             number,
             place,
             results,
+        }
+    }
+}
+
+/// An item's state. The null mark is 0 or 1.
+#[derive(Clone, Copy, Debug, Default, PartialEq, Eq)]
+pub struct State {
+    pub is_null: u32,
+    pub type_code: u32,
+    pub value_length: u32,
+}
+
+impl From<reader::State> for State {
+    fn from(state: reader::State) -> State {
+        State {
+            is_null: state.is_null.into(),
+            type_code: state.type_code.into(),
+            value_length: state.value_length,
+        }
+    }
+}
+
+/// Where in the data a value lies.
+#[derive(Clone, Copy, Debug, Default, PartialEq, Eq)]
+pub struct Part {
+    pub offset: u32,
+    pub length: u32,
+}
+
+impl Part {
+    /// The bytes there, if the data go so far.
+    pub fn of(self, data: &[u8]) -> Option<&[u8]> {
+        data.get(self.offset as usize..)?
+            .get(..self.length as usize)
+    }
+}
+
+/// A whole-number item. The null mark is 0 or 1.
+#[derive(Clone, Copy, Debug, Default, PartialEq, Eq)]
+pub struct Whole {
+    pub is_null: u32,
+    pub value: i64,
+}
+
+impl From<reader::Whole> for Whole {
+    fn from(whole: reader::Whole) -> Whole {
+        Whole {
+            is_null: whole.is_null.into(),
+            value: whole.value,
         }
     }
 }
@@ -100,7 +150,7 @@ const UNWRITTEN: u32 = 0xDEAD_BEEF;
 pub fn check(descriptor: &[u8]) -> Answer<u32> {
     let (mut place, mut results) = (UNWRITTEN, UNWRITTEN);
     let number = unsafe {
-        probe_check(
+        fdoca_check(
             descriptor.as_ptr(),
             descriptor.len(),
             &mut place,
@@ -117,7 +167,7 @@ pub fn check(descriptor: &[u8]) -> Answer<u32> {
 pub fn list(descriptor: &[u8], data: &[u8], list: &mut [u32]) -> Answer<()> {
     let mut place = UNWRITTEN;
     let number = unsafe {
-        probe_list(
+        fdoca_list(
             descriptor.as_ptr(),
             descriptor.len(),
             data.as_ptr(),
@@ -137,12 +187,12 @@ pub fn list(descriptor: &[u8], data: &[u8], list: &mut [u32]) -> Answer<()> {
 pub fn state(descriptor: &[u8], data: &[u8], item: u32) -> Answer<State> {
     let mut place = UNWRITTEN;
     let mut results = State {
-        is_null: true,
-        type_code: 0xEE,
+        is_null: UNWRITTEN,
+        type_code: UNWRITTEN,
         value_length: UNWRITTEN,
     };
     let number = unsafe {
-        probe_state(
+        fdoca_state(
             descriptor.as_ptr(),
             descriptor.len(),
             data.as_ptr(),
@@ -161,29 +211,39 @@ pub fn state(descriptor: &[u8], data: &[u8], item: u32) -> Answer<State> {
     }
 }
 
-/// The length of the value. It is copied to the beginning of `out` if it fits.
-pub fn lend(descriptor: &[u8], data: &[u8], item: u32, out: &mut [u8]) -> usize {
-    unsafe {
-        probe_lend(
+pub fn lend(descriptor: &[u8], data: &[u8], item: u32) -> Answer<Part> {
+    let mut place = UNWRITTEN;
+    let mut results = Part {
+        offset: UNWRITTEN,
+        length: UNWRITTEN,
+    };
+    let number = unsafe {
+        fdoca_lend(
             descriptor.as_ptr(),
             descriptor.len(),
             data.as_ptr(),
             data.len(),
             item,
-            out.as_mut_ptr(),
-            out.len(),
+            &mut place,
+            &mut results.offset,
+            &mut results.length,
         )
+    };
+    Answer {
+        number,
+        place,
+        results,
     }
 }
 
 pub fn whole_number(descriptor: &[u8], data: &[u8], item: u32) -> Answer<Whole> {
     let mut place = UNWRITTEN;
     let mut results = Whole {
-        is_null: true,
+        is_null: UNWRITTEN,
         value: i64::MIN + 1,
     };
     let number = unsafe {
-        probe_whole_number(
+        fdoca_whole_number(
             descriptor.as_ptr(),
             descriptor.len(),
             data.as_ptr(),

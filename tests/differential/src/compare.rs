@@ -2,7 +2,7 @@
 
 use std::fmt::Debug;
 
-use differential::answers;
+use differential::answers::{self, Part};
 use reader::generate::Random;
 
 /// How many mismatches are printed.
@@ -81,30 +81,18 @@ impl Comparison {
         self.agree(block, &format!("state of {item}"), state, expected.into());
         self.met(state.number);
 
+        let lent = answers::lend(descriptor, data, item);
+        let part = reader::lend(descriptor, data, item);
+        let expected = expected.map(|_| place_of(part, data));
+        self.agree(block, &format!("lend {item}"), lent, expected.into());
+        let bytes = lent.results.of(data);
+        self.agree(block, &format!("bytes of {item}"), bytes, Some(part));
+        self.met(lent.number);
+
         let whole = answers::whole_number(descriptor, data, item);
         let expected = reader::whole_number(descriptor, data, item);
         self.agree(block, &format!("whole {item}"), whole, expected.into());
         self.met(whole.number);
-
-        self.compare_lent(block, item);
-    }
-
-    /// The lent part goes to a buffer that is just long enough, longer or too short.
-    fn compare_lent(&mut self, block: Block, item: u32) {
-        let part = reader::lend(block.descriptor, block.data, item);
-        let room = match self.random.below(4) {
-            0 => part.len().saturating_sub(1),
-            1 => part.len() + 3,
-            _ => part.len(),
-        };
-        let mut expected = vec![0xA5; room];
-        if let Some(beginning) = expected.get_mut(..part.len()) {
-            beginning.copy_from_slice(part);
-        }
-        let mut bytes = vec![0xA5; room];
-        let length = answers::lend(block.descriptor, block.data, item, &mut bytes);
-        let call = format!("lent part of {item}");
-        self.agree(block, &call, (length, bytes), (part.len(), expected));
     }
 
     fn agree<T: PartialEq + Debug>(&mut self, block: Block, call: &str, library: T, reader: T) {
@@ -129,6 +117,15 @@ impl Comparison {
 struct Block<'b> {
     descriptor: &'b [u8],
     data: &'b [u8],
+}
+
+/// Where a part lies in the data, also an empty one.
+fn place_of(part: &[u8], data: &[u8]) -> Part {
+    let offset = part.as_ptr().addr().wrapping_sub(data.as_ptr().addr());
+    Part {
+        offset: offset as u32,
+        length: part.len() as u32,
+    }
 }
 
 fn hex(bytes: &[u8]) -> String {

@@ -15,17 +15,29 @@ pub fn list(descriptor: &[u8], data: &[u8], list: &mut [u32]) -> Result<(), Refu
 }
 
 pub fn state(descriptor: &[u8], data: &[u8], item: u32) -> Result<State, Refusal> {
-    answers::state(descriptor, data, item).accepted()
+    let state = answers::state(descriptor, data, item).accepted()?;
+    Ok(State {
+        is_null: is_marked(state.is_null),
+        type_code: state.type_code.try_into().expect("a type code of one byte"),
+        value_length: state.value_length,
+    })
 }
 
-/// The bytes that are lent, copied.
-pub fn lend(descriptor: &[u8], data: &[u8], item: u32) -> Vec<u8> {
-    let mut bytes = vec![0; data.len()];
-    let length = answers::lend(descriptor, data, item, &mut bytes);
-    bytes.truncate(length);
-    bytes
+/// The part of the data that is lent.
+pub fn lend<'b>(descriptor: &[u8], data: &'b [u8], item: u32) -> &'b [u8] {
+    let part = answers::lend(descriptor, data, item).results;
+    part.of(data).expect("a part within the data")
 }
 
 pub fn whole_number(descriptor: &[u8], data: &[u8], item: u32) -> Result<Whole, Refusal> {
-    answers::whole_number(descriptor, data, item).accepted()
+    let whole = answers::whole_number(descriptor, data, item).accepted()?;
+    Ok(Whole {
+        is_null: is_marked(whole.is_null),
+        value: whole.value,
+    })
+}
+
+fn is_marked(mark: u32) -> bool {
+    assert!(mark <= 1, "null mark {mark}");
+    mark == 1
 }
