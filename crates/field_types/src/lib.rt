@@ -4,6 +4,7 @@ ghost use lib.ListN.{length};
 ghost use Rattle.fdoca.specs.FieldType.{typeOf};
 ghost use Rattle.field_types.specs.Rows.{rowOf, RowTable, ruleAt};
 ghost use Rattle.field_types.specs.Parameters.{unusedZero, ruleAllows, goodEight, layoutIf};
+use numbers::pair;
 
 // A number that no field length is, since two bytes do not hold it.
 const NO_SIZE: usize = 65536;
@@ -475,12 +476,7 @@ pub fn layout_of(rows: &[u8; 256], code: u8, ps: &[u8]) -> u8
         return NO_LAYOUT;
     }
     let rule = rule_at(rows[code as usize]);
-    if rule_allows(
-        rule,
-        numbers::pair(ps[2], ps[3]),
-        ps[5],
-        numbers::pair(ps[6], ps[7]),
-    ) {
+    if rule_allows(rule, pair(ps[2], ps[3]), ps[5], pair(ps[6], ps[7])) {
         return rule.prefix;
     }
     NO_LAYOUT

@@ -12,6 +12,7 @@ ghost use Rattle.field_types.specs.Parameters.{layoutNumber, layoutIf};
 ghost use Rattle.plans.specs.Tied.{lowerOf};
 ghost use Rattle.triplets.specs.Judged.{extentOr1, Agreeing, summed, JudgedSDA, AddedGroup, AddedGroups, JudgedRLO, JudgedCPT, JudgedISD};
 ghost use Rattle.triplets.specs.Kept.{EntryOf, PutSDA};
+use numbers::wide64;
 
 // The largest count of items.
 const MOST: usize = 4096;
@@ -325,10 +326,10 @@ fn plan_entry(t: &[u8], layout: u8) -> u64
     requires { ⌜ (goodLengthSDA (now t) ≡ true) × (layout ≡ layoutNumber (codeOf (now t))) ⌝ }
     ensures { λ r. ⌜ EntryOf (now (t .entry)) r ⌝ }
 {
-    let mode = numbers::wide64(t[9]) + 256 * numbers::wide64(layout);
-    let code = numbers::wide64(t[3]) + 256 * mode;
-    let id = numbers::wide64(t[2]) + 256 * code;
-    let length = numbers::wide64(t[10]) * 256 + numbers::wide64(t[11]);
+    let mode = wide64(t[9]) + 256 * wide64(layout);
+    let code = wide64(t[3]) + 256 * mode;
+    let id = wide64(t[2]) + 256 * code;
+    let length = wide64(t[10]) * 256 + wide64(t[11]);
     length + 65536 * id
 }
 
