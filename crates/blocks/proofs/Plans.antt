@@ -1,7 +1,7 @@
--- A plan of as many entries as there are items stands for the unfolding; so what walking it finds is what the definitions say.
+-- A plan of as many entries as there are items stands for the unfolding; so what marking it lists is what the definitions say.
 -- Assumes nothing.
 use mathlib.Core.Path.{_≡_, refl, ap, _∙_}
-use Prim.Native.Nat.{ℕ, _≤_}
+use Prim.Native.Nat.{ℕ}
 use native.Mathlib.Omega.{arith}
 use mathlib.Core.List.{List, map}
 use lib.ListN.{length}
@@ -16,38 +16,18 @@ use Rattle.fdoca.proofs.Stops.{walk-number}
 use Rattle.plans.specs.Plan.{entryOf, Planned}
 use Rattle.plans.specs.Tied.{listOf}
 use Rattle.descriptors.specs.Holds.{Ready}
-use Rattle.descriptors.proofs.Callers.{for-unfolding}
 use Rattle.walks.specs.declared.Stop.{Stop}
-use Rattle.walks.specs.declared.Found.{Found}
-use Rattle.walks.specs.Finding.{foundOf, itemOf, IsPlan}
 use Rattle.walks.specs.Marks.{markOf, stopOf, Marked, listBy}
-use Rattle.walks.proofs.Callers.{as-many, all-noted, good-marks, found-inside, found-state}
+use Rattle.walks.proofs.Callers.{as-many, all-noted, good-marks}
 use Rattle.walks.proofs.Writing.{list-by-marks}
-use Rattle.blocks.specs.Answers.{itemsInto, ListedAs, FoundAs}
+use Rattle.lookups.proofs.Plans.{planned}
+use Rattle.blocks.specs.Answers.{itemsInto, ListedAs}
 
 module _ (d s z e plan : List ℕ) (id : ℕ) (rd : Ready d s z e id (length plan)) where
   module _ (plan′ : List ℕ) (written : plan′ ≡ sets plan 0 (map entryOf (listOf d id))) where
-    planned : Planned plan′ (unfolded d)
-    planned = for-unfolding d s z e plan id rd plan′ written
-
-    pub is-plan : IsPlan plan′
-    is-plan = record { fields = unfolded d; planned = planned }
-
-    pub found-way : (x : List ℕ) (k : ℕ) (r : Found) → length x ≤ 32768 → ((fs : List Field) → Planned plan′ fs → r ≡ foundOf (itemOf fs x k))
-        → FoundAs (itemOf (unfolded d) x k) x r
-    found-way x k r few f =
-        let p : Planned plan′ (unfolded d) = planned in
-        let h : r ≡ foundOf (itemOf (unfolded d) x k) = f (unfolded d) p in
-        record {
-          found = h;
-          inside = found-inside plan′ (unfolded d) x k r p h;
-          small = omega (arith, found-inside plan′ (unfolded d) x k r p h);
-          state = found-state plan′ (unfolded d) x k r p h;
-        }
-
     module _ (x plan″ old : List ℕ) (stop : Stop) (f : (fs : List Field) → Planned plan′ fs → Marked stop plan″ fs x) where
       marked : Marked stop plan″ (unfolded d) x
-      marked = f (unfolded d) planned
+      marked = f (unfolded d) (planned d s z e plan id rd plan′ written)
 
       pub stopped-way : (r : Listed) → (stop .number ≡ 0 → ⊥) → r ≡ record { number = stop .number; place = stop .place }
           → ListedAs (itemsInto (length plan) (unfolded d) x old) old r old
@@ -64,6 +44,9 @@ module _ (d s z e plan : List ℕ) (id : ℕ) (rd : Ready d s z e id (length pla
       unfolding itemsInto stopOf
       listed-way new r h q g = go (walk (unfolded d) x) refl (marked .answered)
         where
+          as-planned : Planned plan′ (unfolded d)
+          as-planned = planned d s z e plan id rd plan′ written
+
           long : length plan′ ≡ length plan
           long = ap length written ∙ length-sets plan 0 (map entryOf (listOf d id))
 
@@ -73,7 +56,7 @@ module _ (d s z e plan : List ℕ) (id : ℕ) (rd : Ready d s z e id (length pla
               let z : n ≡ 0 = rw a at h in
               absurd (let y : ⊥ = omega (arith, walk-number (unfolded d) x n p e) in y)
           go (ok ns) e a =
-              let n : length ns ≡ length plan = as-many plan′ (unfolded d) x ns planned e ∙ long in
+              let n : length ns ≡ length plan = as-many plan′ (unfolded d) x ns as-planned e ∙ long in
               let m : plan″ ≡ map markOf ns = marked .marks ∙ good-marks (unfolded d) x ns e in
-              let k : new ≡ itemList (length ns) (length x) ns old = g ∙ list-by-marks plan″ (length x) old ns (all-noted plan′ (unfolded d) x ns planned e) m in
+              let k : new ≡ itemList (length ns) (length x) ns old = g ∙ list-by-marks plan″ (length x) old ns (all-noted plan′ (unfolded d) x ns as-planned e) m in
               record { answered = rw (q, a); entries = rw n at k }

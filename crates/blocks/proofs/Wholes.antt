@@ -27,7 +27,7 @@ use Rattle.numbers.specs.Whole.{wholeUpTo8}
 use Rattle.numbers.proofs.Whole.{read-integer, read-reversed}
 use Rattle.walks.specs.declared.Found.{Found}
 use Rattle.walks.specs.Finding.{foundOf}
-use Rattle.blocks.specs.Answers.{FoundAs}
+use Rattle.lookups.specs.Answer.{FoundAs}
 
 abbrev wholly : ℤ → Whole
 wholly z = record { number = 0; place = 0; null = false; value = z }

@@ -7,14 +7,12 @@ ghost use Rattle.fdoca.specs.Unfolding.{unfolded};
 ghost use Rattle.fdoca.specs.Calls as calls;
 ghost use Rattle.fdoca.specs.Calls.{itemAt, stateOf, wholeNumber, wholeAnswer};
 ghost use Rattle.descriptors.specs.Holds.{Ready};
-ghost use Rattle.walks.specs.Finding.{foundOf, itemOf};
-ghost use Rattle.blocks.specs.Answers.{itemsInto, ListedAs, FoundAs};
+ghost use Rattle.blocks.specs.Answers.{itemsInto, ListedAs};
 ghost use Rattle.blocks.specs.Lending.{lentAt, LentPart};
 use descriptors::Examined;
 use fdoca::Listed;
 use fdoca::State;
 use fdoca::Whole;
-use walks::Found;
 
 // Where an item's value lies: so many bytes behind the data's beginning, and so long. A refusal has its number and place, and zeros.
 pub struct Lent {
@@ -23,14 +21,6 @@ pub struct Lent {
     pub offset: u32,
     pub length: u32,
 }
-
-// The largest data block.
-const MOST_DATA: usize = 32768;
-
-// The two sizes of a plan: a buffer is cleared before use, so a small block takes a small one.
-const FEW: usize = 128;
-
-const MANY: usize = 4096;
 
 // The list call on an accepted descriptor, with a plan of as many entries as there are items. The list is written only after the whole block
 // is known to be good.
@@ -59,24 +49,6 @@ fn list_by(
     }
 }
 
-// One item of an accepted descriptor's block, with a plan of as many entries as there are items.
-fn find_by(
-    desc: &[u8],
-    starts: &[u16; 256],
-    sizes: &[u32; 256],
-    entries: &[u64; 256],
-    id: u8,
-    plan: &mut [u64],
-    data: &[u8],
-    item: u32,
-) -> Found
-    requires { ⌜ Ready (now desc) (now starts) (now sizes) (now entries) id (length (now plan)) × (length (now «data») ≤ 32768) ⌝ }
-    ensures { λ r. ⌜ FoundAs (itemOf (unfolded (now (desc .entry))) (now («data» .entry)) item) (now («data» .entry)) r ⌝ }
-{
-    plans::write(desc, starts, sizes, entries, plan, id);
-    walks::find(plan, data, item)
-}
-
 // The list call on an accepted descriptor, with a plan in the smaller buffer that holds it.
 fn list_planned(
     desc: &[u8],
@@ -93,11 +65,11 @@ fn list_planned(
 {
     let n = x.items as usize;
     let id = x.id;
-    if n <= FEW {
-        let mut few = [0u64; FEW];
+    if n <= lookups::FEW {
+        let mut few = [0u64; lookups::FEW];
         return list_by(desc, starts, sizes, entries, id, &mut few[..n], data, list);
     }
-    let mut many = [0u64; MANY];
+    let mut many = [0u64; lookups::MANY];
     list_by(desc, starts, sizes, entries, id, &mut many[..n], data, list)
 }
 
@@ -106,7 +78,7 @@ fn list_planned(
 pub fn list(descriptor: &[u8], data: &[u8], list: &mut [u32]) -> Listed
     ensures { λ r. ⌜ ListedAs (calls.list (now (descriptor .entry)) (now («data» .entry)) (now (list .entry))) (now (list .entry)) r (now (list .exit)) ⌝ }
 {
-    if MOST_DATA < data.len() {
+    if lookups::MOST_DATA < data.len() {
         return Listed {
             number: 1,
             place: 0,
@@ -132,66 +104,11 @@ pub fn list(descriptor: &[u8], data: &[u8], list: &mut [u32]) -> Listed
     list_planned(descriptor, &starts, &sizes, &entries, x, data, list)
 }
 
-// One item of an accepted descriptor's block, with a plan in the smaller buffer that holds it.
-fn find_planned(
-    desc: &[u8],
-    starts: &[u16; 256],
-    sizes: &[u32; 256],
-    entries: &[u64; 256],
-    x: Examined,
-    data: &[u8],
-    item: u32,
-) -> Found
-    requires { ⌜ Ready (now desc) (now starts) (now sizes) (now entries) (x .id) (x .items) × (length (now «data») ≤ 32768) ⌝ }
-    ensures { λ r. ⌜ FoundAs (itemOf (unfolded (now (desc .entry))) (now («data» .entry)) item) (now («data» .entry)) r ⌝ }
-{
-    let n = x.items as usize;
-    let id = x.id;
-    if n <= FEW {
-        let mut few = [0u64; FEW];
-        return find_by(desc, starts, sizes, entries, id, &mut few[..n], data, item);
-    }
-    let mut many = [0u64; MANY];
-    find_by(desc, starts, sizes, entries, id, &mut many[..n], data, item)
-}
-
-// No item, for a reason that lies before the items.
-fn not_found(number: u32, place: u32) -> Found
-    ensures { λ r. ⌜ r ≡ foundOf (refuse number place) ⌝ }
-{
-    Found {
-        number: number,
-        place: place,
-        start: 0,
-        null: false,
-        prefix: 0,
-        value: 0,
-        entry: 0,
-    }
-}
-
-// The item of a number, or the refusal.
-fn find(descriptor: &[u8], data: &[u8], item: u32) -> Found
-    ensures { λ r. ⌜ FoundAs (itemAt (now (descriptor .entry)) (now («data» .entry)) item) (now («data» .entry)) r ⌝ }
-{
-    if MOST_DATA < data.len() {
-        return not_found(1, 0);
-    }
-    let mut starts = [triplets::NOWHERE; 256];
-    let mut sizes = [0u32; 256];
-    let mut entries = [0u64; 256];
-    let x = descriptors::examine(descriptor, &mut starts, &mut sizes, &mut entries);
-    if x.number != 0 {
-        return not_found(x.number, x.place);
-    }
-    find_planned(descriptor, &starts, &sizes, &entries, x, data, item)
-}
-
 // Tells an item's state: null mark, type code, value length.
 pub fn state(descriptor: &[u8], data: &[u8], item: u32) -> State
     ensures { λ r. ⌜ r ≡ stateOf (itemAt (now (descriptor .entry)) (now («data» .entry)) item) ⌝ }
 {
-    let found = find(descriptor, data, item);
+    let found = lookups::find(descriptor, data, item);
     State {
         number: found.number,
         place: found.place,
@@ -205,7 +122,7 @@ pub fn state(descriptor: &[u8], data: &[u8], item: u32) -> State
 pub fn value_place(descriptor: &[u8], data: &[u8], item: u32) -> Lent
     ensures { λ r. ⌜ (r ≡ lentAt (itemAt (now (descriptor .entry)) (now («data» .entry)) item)) × (r .offset + r .length ≤ length (now («data» .entry))) ⌝ }
 {
-    let found = find(descriptor, data, item);
+    let found = lookups::find(descriptor, data, item);
     let offset = (found.start + found.prefix) as u32;
     let length = found.value as u32;
     Lent {
@@ -243,7 +160,7 @@ fn not_whole(start: usize) -> Whole
 pub fn whole_number(descriptor: &[u8], data: &[u8], item: u32) -> Whole
     ensures { λ r. ⌜ r ≡ wholeAnswer (wholeNumber (now (descriptor .entry)) (now («data» .entry)) item) ⌝ }
 {
-    let found = find(descriptor, data, item);
+    let found = lookups::find(descriptor, data, item);
     if found.number != 0 {
         return Whole {
             number: found.number,

@@ -1,4 +1,5 @@
-use Rattle.blocks.proofs.Calling.{list-over, list-refused, ready, list-small, list-fine}
+use Rattle.lookups.proofs.Calling.{ready}
+use Rattle.blocks.proofs.Calling.{list-over, list-refused, list-small, list-fine}
 use borrow.Author.Needs.{needs}
 use Rattle.blocks.proofs.list.Statement.{statement}
 use Rattle.blocks.proofs.list.Tie as tie

@@ -1,6 +1,7 @@
 use mathlib.Core.Path.{refl}
 use Rattle.descriptors.proofs.Callers.{ready-room}
-use Rattle.blocks.proofs.Plans.{is-plan, stopped-way, listed-way}
+use Rattle.lookups.proofs.Plans.{is-plan}
+use Rattle.blocks.proofs.Plans.{stopped-way, listed-way}
 use borrow.Author.Needs.{needs}
 use Rattle.blocks.proofs.list_by.Statement.{statement}
 use Rattle.blocks.proofs.list_by.Tie as tie

@@ -1,4 +1,5 @@
-use Rattle.blocks.proofs.Parts.{part-length, part-ready, part-room, part-listed}
+use Rattle.lookups.proofs.Parts.{part-length, part-ready}
+use Rattle.blocks.proofs.Parts.{part-room, part-listed}
 use borrow.Author.Needs.{needs}
 use Rattle.blocks.proofs.list_planned.Statement.{statement}
 use Rattle.blocks.proofs.list_planned.Tie as tie

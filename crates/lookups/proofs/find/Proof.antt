@@ -1,7 +1,7 @@
-use Rattle.blocks.proofs.Calling.{ready, item-over, item-refused, item-fine}
+use Rattle.lookups.proofs.Calling.{ready, item-over, item-refused, item-fine}
 use borrow.Author.Needs.{needs}
-use Rattle.blocks.proofs.find.Statement.{statement}
-use Rattle.blocks.proofs.find.Tie as tie
+use Rattle.lookups.proofs.find.Statement.{statement}
+use Rattle.lookups.proofs.find.Tie as tie
 
 not-found-requires : tie.Need-not-found-requires
 not-found-requires c κs = search needs

@@ -1,7 +1,7 @@
-use Rattle.blocks.proofs.Parts.{part-length, part-ready}
+use Rattle.lookups.proofs.Parts.{part-length, part-ready}
 use borrow.Author.Needs.{needs}
-use Rattle.blocks.proofs.find_planned.Statement.{statement}
-use Rattle.blocks.proofs.find_planned.Tie as tie
+use Rattle.lookups.proofs.find_planned.Statement.{statement}
+use Rattle.lookups.proofs.find_planned.Tie as tie
 
 cast-n : tie.Need-cast-n
 cast-n c = search needs

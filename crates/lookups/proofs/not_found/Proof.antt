@@ -1,7 +1,7 @@
 use mathlib.Core.Path.{refl}
 use Rattle.walks.specs.Finding.{foundOf}
-use Rattle.blocks.proofs.not_found.Statement.{statement}
-use Rattle.blocks.proofs.not_found.Tie as tie
+use Rattle.lookups.proofs.not_found.Statement.{statement}
+use Rattle.lookups.proofs.not_found.Tie as tie
 
 returns : tie.Need-returns
 unfolding foundOf

@@ -1,8 +1,8 @@
 use Rattle.descriptors.proofs.Callers.{ready-room}
-use Rattle.blocks.proofs.Plans.{is-plan, found-way}
+use Rattle.lookups.proofs.Plans.{is-plan, found-way}
 use borrow.Author.Needs.{needs}
-use Rattle.blocks.proofs.find_by.Statement.{statement}
-use Rattle.blocks.proofs.find_by.Tie as tie
+use Rattle.lookups.proofs.find_by.Statement.{statement}
+use Rattle.lookups.proofs.find_by.Tie as tie
 
 write-requires : tie.Need-write-requires
 write-requires c κs = search (needs, ready-room)

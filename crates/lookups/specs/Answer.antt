@@ -1,0 +1,17 @@
+-- How what is found of an item stands to what the definitions give.
+use Prim.Native.Nat.{ℕ, _+_, _≤_}
+use mathlib.Core.Path.{_≡_}
+use mathlib.Core.List.{List}
+use lib.ListN.{length}
+use Rattle.fdoca.specs.Basics.{Result}
+use Rattle.fdoca.specs.Walk.{Note}
+use Rattle.fdoca.specs.Calls.{stateOf}
+use Rattle.walks.specs.declared.Found.{Found}
+use Rattle.walks.specs.Finding.{foundOf, stateFound}
+
+-- What was found of an item of the data s: it lies within the data.
+pub record FoundAs (x : Result Note) (s : List ℕ) (r : Found) : Type 0 where
+  pub found : r ≡ foundOf x
+  pub inside : r .start + r .prefix + r .value ≤ length s
+  pub small : r .start + r .prefix + r .value ≤ 32768
+  pub state : stateFound r ≡ stateOf x
