@@ -84,7 +84,7 @@ pub fn list(descriptor: &[u8], data: &[u8], list: &mut [u32]) -> Listed
             place: 0,
         };
     }
-    let mut starts = [triplets::NOWHERE; 256];
+    let mut starts = [sdas::NOWHERE; 256];
     let mut sizes = [0u32; 256];
     let mut entries = [0u64; 256];
     let x = descriptors::examine(descriptor, &mut starts, &mut sizes, &mut entries);

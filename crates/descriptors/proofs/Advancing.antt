@@ -13,7 +13,8 @@ use borrow.Author.Tests.{ne-eqb}
 use Rattle.fdoca.specs.Triplet.{constructOf}
 use Rattle.fdoca.specs.Unfolding.{closed}
 use Rattle.fdoca.specs.Between.{entries}
-use Rattle.triplets.specs.Judged.{Agreeing, JudgedISD}
+use Rattle.sdas.specs.Tables.{Agreeing}
+use Rattle.triplets.specs.Judged.{JudgedISD}
 use Rattle.descriptors.specs.declared.Step.{Step}
 use Rattle.descriptors.specs.Holds.{Tables, EndsAt, no-CPT, Held, ClosedRow, Bare, SteppedSDA, SteppedRLO, SteppedCPT, Advanced}
 use Rattle.descriptors.proofs.Moving.{sda-moved, rlo-moved, cpt-moved, isd-moved, other-moved}

@@ -15,7 +15,7 @@ use Rattle.fdoca.specs.Item.{Field}
 use Rattle.fdoca.specs.Unfolding.{Described, array, row, groupFields, addFields, Layouts, closeRow}
 use Rattle.fdoca.specs.Between.{entry}
 use Rattle.plans.specs.Tied.{groupsIn, groupsAt, Groups, Takes, all}
-use Rattle.triplets.specs.Judged.{Entered}
+use Rattle.sdas.specs.Tables.{Entered}
 use Rattle.descriptors.specs.declared.Step.{Step}
 use Rattle.descriptors.specs.Holds.{RefersIn, RowIn, KeptIn, Tables, EndsAt, MakesSame, RowSoFar, Current, Last, Holds, Held, ClosedRow}
 use Rattle.descriptors.proofs.Rows.{three, ends-none, ends-all}

@@ -16,7 +16,7 @@ use Rattle.fdoca.specs.Item.{Field}
 use Rattle.fdoca.specs.Unfolding.{Described, array, row, groupFields, addFields}
 use Rattle.fdoca.specs.Between.{entry, entries}
 use Rattle.plans.specs.Tied.{groupsAt}
-use Rattle.triplets.specs.Judged.{KeptAs, Entered}
+use Rattle.sdas.specs.Tables.{KeptAs, Entered}
 use Rattle.descriptors.specs.Holds.{RefersIn, RowIn, KeptIn, Placed, Tables}
 use Rattle.descriptors.proofs.Rows.{AllGroups, groups-all, groups-map}
 

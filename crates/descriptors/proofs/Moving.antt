@@ -25,9 +25,11 @@ use Rattle.fdoca.proofs.Triplets.{triplets-short, triplets-past, triplets-next}
 use Rattle.fdoca.proofs.Count.{entry?, closed-state, lookup-entries, check-triplet}
 use Rattle.plans.specs.Plan.{entryOf, Proper}
 use Rattle.plans.specs.Tied.{groupsIn, groupsAt, lowerOf, SdaKept}
-use Rattle.triplets.specs.Judged.{Positive, Entered, described, rowAtHand, outcome, GoodRow, JudgedISD}
-use Rattle.triplets.specs.Kept.{PutSDA}
-use Rattle.triplets.proofs.Entries.{good-positive, good-id, good-type}
+use Rattle.sdas.specs.Tables.{Positive, Entered, outcome}
+use Rattle.sdas.specs.Judged.{described}
+use Rattle.sdas.specs.Kept.{PutSDA}
+use Rattle.sdas.proofs.Entries.{good-positive, good-id, good-type}
+use Rattle.triplets.specs.Judged.{rowAtHand, GoodRow, JudgedISD}
 use Rattle.descriptors.specs.declared.Step.{Step}
 use Rattle.descriptors.specs.Holds.{RefersIn, Placed, Tables, RowSoFar, AtHand, Current, Last, Holds, Held, Bare, SteppedSDA, SteppedRLO, SteppedCPT, Advanced}
 use Rattle.descriptors.proofs.Rows.{AllGroups, cpt-groups, cpt-all, own-groups, own-refer}

@@ -12,11 +12,13 @@ use Rattle.fdoca.specs.Basics.{product, Result, refuse, ok}
 use Rattle.fdoca.specs.Triplet.{codeOf, extentsOf}
 use Rattle.fdoca.specs.Check.{goodLengthSDA, goodSDA}
 use Rattle.field_types.specs.Parameters.{layoutNumber}
+use Rattle.sdas.specs.declared.Judged.{Judged}
+use Rattle.sdas.specs.Tables.{outcome}
+use Rattle.sdas.specs.Judged.{JudgedSDA}
+use Rattle.sdas.specs.Kept.{PutSDA}
+use Rattle.sdas.proofs.Sda.{at-least-12}
 use Rattle.triplets.specs.declared.Sum.{Sum}
-use Rattle.triplets.specs.declared.Judged.{Judged}
-use Rattle.triplets.specs.Judged.{outcome, JudgedSDA, JudgedRLO, JudgedCPT}
-use Rattle.triplets.specs.Kept.{PutSDA}
-use Rattle.triplets.proofs.Sda.{at-least-12}
+use Rattle.triplets.specs.Judged.{JudgedRLO, JudgedCPT}
 use Rattle.descriptors.specs.declared.Step.{Step}
 use Rattle.descriptors.specs.Holds.{Bare, SteppedSDA, SteppedRLO, SteppedCPT}
 

@@ -13,8 +13,10 @@ use Rattle.fdoca.specs.Check.{Entry, goodSDA, checkSDA, checkRLO, checkCPT, che
 use Rattle.fdoca.specs.Unfolding.{Described, array, row, fieldsOf, Layouts, closed, unfoldTriplets, start, unfolded, addFields}
 use Rattle.fdoca.specs.Between.{tripletsAt, entries, state}
 use Rattle.plans.specs.Tied.{describedBy, groupsAt, groupsIn, Groups, Takes, SdaKept, Tied, Known, listOf}
-use Rattle.triplets.specs.Judged.{Agrees, described, rowAtHand, GoodRow}
-use Rattle.triplets.specs.Kept.{PutSDA}
+use Rattle.sdas.specs.Tables.{Agrees}
+use Rattle.sdas.specs.Judged.{described}
+use Rattle.sdas.specs.Kept.{PutSDA}
+use Rattle.triplets.specs.Judged.{rowAtHand, GoodRow}
 use Rattle.descriptors.specs.declared.Step.{Step}
 use Rattle.descriptors.specs.declared.Examined.{Examined}
 

@@ -8,7 +8,7 @@ ghost use Rattle.fdoca.specs.Triplet.{triplets};
 ghost use Rattle.fdoca.specs.Check.{check};
 ghost use Rattle.fdoca.specs.Calls.{checked};
 ghost use Rattle.field_types.specs.Rows.{RowTable};
-ghost use Rattle.triplets.specs.Judged.{Agreeing};
+ghost use Rattle.sdas.specs.Tables.{Agreeing};
 ghost use Rattle.descriptors.specs.Holds.{MakesSame, Held, ClosedRow, SteppedSDA, SteppedRLO, SteppedCPT, Advanced, Bare, Examination};
 use fdoca::Checked;
 
@@ -105,11 +105,11 @@ fn sda_step(
     requires { ⌜ RowTable (now rows) × (p < 4096) ⌝ }
     ensures { λ r. ⌜ SteppedSDA (now (t .entry)) p (now (starts .entry)) (now (sizes .entry)) (now (entries .entry)) (now (starts .exit)) (now (sizes .exit)) (now (entries .exit)) r ⌝ }
 {
-    let judged = triplets::judge_sda(t, rows, starts);
+    let judged = sdas::judge_sda(t, rows, starts);
     if judged.number != 0 {
         return bare(judged.number);
     }
-    triplets::put_sda(t, p, judged, starts, sizes, entries);
+    sdas::put_sda(t, p, judged, starts, sizes, entries);
     Step {
         number: 0,
         row: false,
@@ -240,7 +240,7 @@ pub fn examine(
 pub fn check(descriptor: &[u8]) -> Checked
     ensures { λ r. ⌜ r ≡ checked (check (now (descriptor .entry))) ⌝ }
 {
-    let mut starts = [triplets::NOWHERE; 256];
+    let mut starts = [sdas::NOWHERE; 256];
     let mut sizes = [0u32; 256];
     let mut entries = [0u64; 256];
     let r = examine(descriptor, &mut starts, &mut sizes, &mut entries);

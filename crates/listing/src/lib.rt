@@ -163,7 +163,7 @@ fn write_block(desc: &[u8], data: &[u8], text: &mut [u8]) -> usize
     requires { ⌜ (length (now desc) ≤ 4096) × (length (now «data») ≤ 32768) × (90112 ≤ length (now text)) ⌝ }
     ensures { λ r. ⌜ Told (now (text .entry)) (now (text .exit)) r (length (now («data» .entry))) (blockNotes (now (desc .entry)) (now («data» .entry))) ⌝ }
 {
-    let mut starts = [triplets::NOWHERE; 256];
+    let mut starts = [sdas::NOWHERE; 256];
     let mut sizes = [0u32; 256];
     let mut entries = [0u64; 256];
     let x = descriptors::examine(desc, &mut starts, &mut sizes, &mut entries);

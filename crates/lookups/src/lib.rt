@@ -82,7 +82,7 @@ pub fn find(descriptor: &[u8], data: &[u8], item: u32) -> Found
     if MOST_DATA < data.len() {
         return not_found(1, 0);
     }
-    let mut starts = [triplets::NOWHERE; 256];
+    let mut starts = [sdas::NOWHERE; 256];
     let mut sizes = [0u32; 256];
     let mut entries = [0u64; 256];
     let x = descriptors::examine(descriptor, &mut starts, &mut sizes, &mut entries);

@@ -13,8 +13,9 @@ use Rattle.fdoca.specs.Basics.{lookup, _>>=_}
 use Rattle.fdoca.specs.Triplet.{threes, groupsOf}
 use Rattle.fdoca.specs.Check.{Entry, addGroup, addGroups, goodLengthRow}
 use Rattle.triplets.specs.declared.Sum.{Sum}
-use Rattle.triplets.specs.Judged.{outcome, Agrees, groupOf, GoodRow, AddedGroup, AddedGroups}
-use Rattle.triplets.proofs.Outcomes.{found-outcome}
+use Rattle.sdas.specs.Tables.{outcome, Agrees}
+use Rattle.triplets.specs.Judged.{groupOf, GoodRow, AddedGroup, AddedGroups}
+use Rattle.sdas.proofs.Outcomes.{found-outcome}
 
 pub whole-groups : (t : List ℕ) → goodLengthRow t ≡ true → GoodRow t
 whole-groups t = go (leb 6 (length t)) (eqb (length t % 3) 0) refl refl

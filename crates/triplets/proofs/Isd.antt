@@ -13,7 +13,7 @@ use Rattle.fdoca.specs.Triplet.{subsetOf, versionOf}
 use Rattle.fdoca.specs.Check.{goodLengthISD, goodISD, checkISD}
 use Rattle.numbers.proofs.Pairs.{two-at}
 use Rattle.triplets.specs.Judged.{JudgedISD}
-use Rattle.triplets.proofs.Outcomes.{refused-outcome, found-outcome}
+use Rattle.sdas.proofs.Outcomes.{refused-outcome, found-outcome}
 
 -- LENGTH is 5 or 6
 pub record FiveOrSix (n : ℕ) : Type 0 where

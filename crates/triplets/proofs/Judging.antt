@@ -12,8 +12,9 @@ use Rattle.fdoca.specs.Basics.{if_then_else_, refuse, ok, _>>=_, _>>_}
 use Rattle.fdoca.specs.Triplet.{idOf, groupsOf}
 use Rattle.fdoca.specs.Check.{isDescribed, goodLengthRow, checkRLO, checkCPT}
 use Rattle.triplets.specs.declared.Sum.{Sum}
-use Rattle.triplets.specs.Judged.{outcome, rowAtHand, AddedGroups, JudgedRLO, JudgedCPT}
-use Rattle.triplets.proofs.Outcomes.{refused-outcome, is-described, not-described}
+use Rattle.sdas.specs.Tables.{outcome}
+use Rattle.triplets.specs.Judged.{rowAtHand, AddedGroups, JudgedRLO, JudgedCPT}
+use Rattle.sdas.proofs.Outcomes.{refused-outcome, is-described, not-described}
 use Rattle.triplets.proofs.Groups.{whole-groups}
 
 -- a row of good length has its first 6 bytes

@@ -15,8 +15,9 @@ use Rattle.fdoca.specs.Basics.{ok, _>>=_, _>>_, reject}
 use Rattle.fdoca.specs.Check.{Entry, array, row, countTaken, maxItems, addGroup}
 use Rattle.fdoca.proofs.Tests.{by-lt}
 use Rattle.triplets.specs.declared.Sum.{Sum}
-use Rattle.triplets.proofs.Outcomes.{below, refused-outcome}
-use Rattle.triplets.specs.Judged.{outcome, lowerOfEntry, Positive, Entered, KeptAs, groupOf, summed, AddedGroup}
+use Rattle.sdas.proofs.Outcomes.{below, refused-outcome}
+use Rattle.sdas.specs.Tables.{outcome, lowerOfEntry, Positive, Entered, KeptAs}
+use Rattle.triplets.specs.Judged.{groupOf, summed, AddedGroup}
 
 -- a row's count with n more items
 module _ (sum n : ℕ) (small : sum ≤ 4096) where

@@ -1,6 +1,6 @@
 use Rattle.triplets.proofs.Judging.{row-has, cpt-bad-length, cpt-reserved, cpt-groups}
 use borrow.Author.Tests.{not-true, not-false}
-use Rattle.triplets.proofs.Outcomes.{is-true}
+use Rattle.sdas.proofs.Outcomes.{is-true}
 use borrow.Author.Needs.{needs}
 use Rattle.triplets.proofs.judge_cpt.Statement.{statement}
 use Rattle.triplets.proofs.judge_cpt.Tie as tie

@@ -1,6 +1,6 @@
 use Rattle.triplets.proofs.Isd.{isd-late, isd-bad-length, isd-bad, isd-fine}
 use borrow.Author.Tests.{not-true, not-false}
-use Rattle.triplets.proofs.Outcomes.{is-true}
+use Rattle.sdas.proofs.Outcomes.{is-true}
 use borrow.Author.Needs.{needs}
 use Rattle.triplets.proofs.judge_isd.Statement.{statement}
 use Rattle.triplets.proofs.judge_isd.Tie as tie

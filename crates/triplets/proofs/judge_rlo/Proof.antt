@@ -1,6 +1,6 @@
 use Rattle.triplets.proofs.Judging.{row-has, rlo-bad-length, rlo-no-id, rlo-taken, rlo-groups}
 use borrow.Author.Tests.{not-true, not-false}
-use Rattle.triplets.proofs.Outcomes.{is-true}
+use Rattle.sdas.proofs.Outcomes.{is-true}
 use borrow.Author.Needs.{needs}
 use Rattle.triplets.proofs.judge_rlo.Statement.{statement}
 use Rattle.triplets.proofs.judge_rlo.Tie as tie

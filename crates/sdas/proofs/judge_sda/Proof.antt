@@ -1,9 +1,9 @@
-use Rattle.triplets.proofs.Sda.{has, sda-bad-length, sda-bad, sda-taken, sda-many, sda-fine}
+use Rattle.sdas.proofs.Sda.{has, sda-bad-length, sda-bad, sda-taken, sda-many, sda-fine}
 use borrow.Author.Tests.{not-true, not-false}
-use Rattle.triplets.proofs.Outcomes.{is-true}
+use Rattle.sdas.proofs.Outcomes.{is-true}
 use borrow.Author.Needs.{needs}
-use Rattle.triplets.proofs.judge_sda.Statement.{statement}
-use Rattle.triplets.proofs.judge_sda.Tie as tie
+use Rattle.sdas.proofs.judge_sda.Statement.{statement}
+use Rattle.sdas.proofs.judge_sda.Tie as tie
 
 sda-length-requires : tie.Need-sda-length-requires
 sda-length-requires c κs = search needs

@@ -24,9 +24,9 @@ use Rattle.field_types.specs.Parameters.{layoutNumber}
 use Rattle.numbers.proofs.Pairs.{two-at}
 use Rattle.plans.specs.Plan.{entryOf}
 use Rattle.plans.specs.Tied.{lowerOf}
-use Rattle.triplets.specs.Judged.{extentOr1}
-use Rattle.triplets.specs.Kept.{EntryOf, PutSDA}
-use Rattle.triplets.proofs.Sda.{FourLengths, none-left, one-left, two-left, three-left, four-lengths, extents-next, extents-end, left-out, no-zero}
+use Rattle.sdas.specs.Judged.{extentOr1}
+use Rattle.sdas.specs.Kept.{EntryOf, PutSDA}
+use Rattle.sdas.proofs.Sda.{FourLengths, none-left, one-left, two-left, three-left, four-lengths, extents-next, extents-end, left-out, no-zero}
 
 -- the parts of a good SDA
 module _ (t : List ℕ) (h : goodSDA t ≡ true) where

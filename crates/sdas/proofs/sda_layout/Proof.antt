@@ -1,8 +1,8 @@
 use Rattle.field_types.proofs.Allowed.{no-layout}
-use Rattle.triplets.proofs.Sda.{at-least-12, has, bad-id, bad-extents, good-rest}
+use Rattle.sdas.proofs.Sda.{at-least-12, has, bad-id, bad-extents, good-rest}
 use borrow.Author.Needs.{needs}
-use Rattle.triplets.proofs.sda_layout.Statement.{statement}
-use Rattle.triplets.proofs.sda_layout.Tie as tie
+use Rattle.sdas.proofs.sda_layout.Statement.{statement}
+use Rattle.sdas.proofs.sda_layout.Tie as tie
 
 shared-slice-read-if1 : tie.Need-shared-slice-read-if1
 shared-slice-read-if1 c = search (needs, has)

@@ -11,7 +11,7 @@ use lib.ListN.{getD}
 use borrow.Author.Tests.{eq-eqb, ne-eqb}
 use Rattle.fdoca.specs.Basics.{lookup, isSome, refuse, ok}
 use Rattle.fdoca.specs.Check.{Entry, isDescribed}
-use Rattle.triplets.specs.Judged.{outcome, KeptAs, Agrees}
+use Rattle.sdas.specs.Tables.{outcome, KeptAs, Agrees}
 
 pub refused-outcome : {A : Type 0} (n p : ℕ) (a : A) → n ≢ 0 → refuse n p ≡ outcome n p a
 unfolding outcome

@@ -1,8 +1,8 @@
-use Rattle.triplets.proofs.Sda.{at-least-12, has}
-use Rattle.triplets.proofs.Entries.{entry-way}
+use Rattle.sdas.proofs.Sda.{at-least-12, has}
+use Rattle.sdas.proofs.Entries.{entry-way}
 use borrow.Author.Needs.{needs}
-use Rattle.triplets.proofs.plan_entry.Statement.{statement}
-use Rattle.triplets.proofs.plan_entry.Tie as tie
+use Rattle.sdas.proofs.plan_entry.Statement.{statement}
+use Rattle.sdas.proofs.plan_entry.Tie as tie
 
 shared-slice-read-wide64 : tie.Need-shared-slice-read-wide64
 shared-slice-read-wide64 c = search (needs, has)

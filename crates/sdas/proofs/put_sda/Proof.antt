@@ -1,8 +1,8 @@
-use Rattle.triplets.proofs.Sda.{has}
-use Rattle.triplets.proofs.Entries.{product-fits, sum-fits, size-fits, put-way}
+use Rattle.sdas.proofs.Sda.{has}
+use Rattle.sdas.proofs.Entries.{product-fits, sum-fits, size-fits, put-way}
 use borrow.Author.Needs.{needs}
-use Rattle.triplets.proofs.put_sda.Statement.{statement}
-use Rattle.triplets.proofs.put_sda.Tie as tie
+use Rattle.sdas.proofs.put_sda.Statement.{statement}
+use Rattle.sdas.proofs.put_sda.Tie as tie
 
 shared-slice-read-wide : tie.Need-shared-slice-read-wide
 shared-slice-read-wide c = search (needs, has)

@@ -1,7 +1,7 @@
-use Rattle.triplets.proofs.Entries.{lower-none, lower-some}
+use Rattle.sdas.proofs.Entries.{lower-none, lower-some}
 use borrow.Author.Needs.{needs}
-use Rattle.triplets.proofs.lower_of.Statement.{statement}
-use Rattle.triplets.proofs.lower_of.Tie as tie
+use Rattle.sdas.proofs.lower_of.Statement.{statement}
+use Rattle.sdas.proofs.lower_of.Tie as tie
 
 returns : tie.Need-returns
 returns c = search (lower-none)

@@ -1,7 +1,7 @@
-use Rattle.triplets.proofs.Sda.{count-fits, count-is, count-below}
+use Rattle.sdas.proofs.Sda.{count-fits, count-is, count-below}
 use borrow.Author.Needs.{needs}
-use Rattle.triplets.proofs.item_count.Statement.{statement}
-use Rattle.triplets.proofs.item_count.Tie as tie
+use Rattle.sdas.proofs.item_count.Statement.{statement}
+use Rattle.sdas.proofs.item_count.Tie as tie
 
 extent-requires : tie.Need-extent-requires
 extent-requires c κs = search needs

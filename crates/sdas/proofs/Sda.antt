@@ -20,9 +20,10 @@ use Rattle.fdoca.specs.FieldType.{typeOf}
 use Rattle.fdoca.specs.Check.{Entry, isDescribed, goodLengthSDA, goodType, goodSDA, checkSDA}
 use Rattle.field_types.specs.Parameters.{goodEight, layoutIf}
 use Rattle.field_types.proofs.Allowed.{good-eight, layout-none, layout-some, layout-is}
-use Rattle.triplets.specs.declared.Judged.{Judged}
-use Rattle.triplets.specs.Judged.{extentOr1, Agrees, described, JudgedSDA}
-use Rattle.triplets.proofs.Outcomes.{below, refused-outcome, found-outcome, is-described, not-described}
+use Rattle.sdas.specs.declared.Judged.{Judged}
+use Rattle.sdas.specs.Tables.{Agrees}
+use Rattle.sdas.specs.Judged.{extentOr1, described, JudgedSDA}
+use Rattle.sdas.proofs.Outcomes.{below, refused-outcome, found-outcome, is-described, not-described}
 
 -- LENGTH is one of four
 pub data FourLengths (n : ℕ) : Type 0 where

@@ -1,7 +1,7 @@
-use Rattle.triplets.proofs.Sda.{lower-fits, lower-is, lower-below}
+use Rattle.sdas.proofs.Sda.{lower-fits, lower-is, lower-below}
 use borrow.Author.Needs.{needs}
-use Rattle.triplets.proofs.lower_product.Statement.{statement}
-use Rattle.triplets.proofs.lower_product.Tie as tie
+use Rattle.sdas.proofs.lower_product.Statement.{statement}
+use Rattle.sdas.proofs.lower_product.Tie as tie
 
 extent-requires : tie.Need-extent-requires
 extent-requires c κs = search needs

@@ -1,8 +1,8 @@
 use Rattle.fdoca.proofs.Tests.{tests}
-use Rattle.triplets.specs.Judged.{extentOr1}
+use Rattle.sdas.specs.Judged.{extentOr1}
 use borrow.Author.Needs.{needs}
-use Rattle.triplets.proofs.extent.Statement.{statement}
-use Rattle.triplets.proofs.extent.Tie as tie
+use Rattle.sdas.proofs.extent.Statement.{statement}
+use Rattle.sdas.proofs.extent.Tie as tie
 
 add-if1 : tie.Need-add-if1
 add-if1 c = search needs

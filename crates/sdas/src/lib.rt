@@ -1,0 +1,165 @@
+// One SDA: the first reason to refuse it, or what is kept of it in the tables of described ids.
+ghost use mathlib.Core.Path.{_≡_};
+ghost use Prim.Native.Nat.{_*_, _≤_, _<_};
+ghost use mathlib.Core.Bool.{true};
+ghost use Rattle.fdoca.specs.Triplet.{codeOf, extentsOf};
+ghost use Rattle.fdoca.specs.Basics.{product};
+ghost use Rattle.fdoca.specs.Check.{goodLengthSDA, goodSDA};
+ghost use Rattle.field_types.specs.Rows.{RowTable};
+ghost use Rattle.field_types.specs.Parameters.{layoutNumber, layoutIf};
+ghost use Rattle.plans.specs.Tied.{lowerOf};
+ghost use Rattle.sdas.specs.Judged.{extentOr1, JudgedSDA};
+ghost use Rattle.sdas.specs.Kept.{EntryOf, PutSDA};
+use numbers::wide64;
+
+// The largest count of items.
+pub const MOST: usize = 4096;
+
+// The position of an id that no triplet has described.
+pub const NOWHERE: u16 = 65535;
+
+// What judging an SDA gives: its layout's number and its item count, or the number of its refusal.
+pub struct Judged {
+    pub number: u8,
+    pub layout: u8,
+    pub count: usize,
+}
+
+fn refused(number: u8) -> Judged
+    ensures { λ r. ⌜ r ≡ record { number = number; layout = 0; count = 0 } ⌝ }
+{
+    Judged {
+        number: number,
+        layout: 0,
+        count: 0,
+    }
+}
+
+// LENGTH of an SDA: 12 plus zero to three extents.
+fn sda_length(t: &[u8]) -> bool
+    ensures { λ r. ⌜ r ≡ goodLengthSDA (now (t .entry)) ⌝ }
+{
+    let n = t.len();
+    if n == 12 {
+        return true;
+    }
+    if n == 14 {
+        return true;
+    }
+    if n == 16 {
+        return true;
+    }
+    if n == 18 {
+        return true;
+    }
+    false
+}
+
+// The extent at a place of an SDA, or 1 where LENGTH leaves it out.
+fn extent(t: &[u8], at: usize) -> usize
+    requires { ⌜ at ≤ 16 ⌝ }
+    ensures { λ r. ⌜ (r ≡ extentOr1 (now (t .entry)) at) × (r < 65536) ⌝ }
+{
+    if t.len() < at + 2 {
+        return 1;
+    }
+    numbers::pair(t[at], t[at + 1])
+}
+
+// The product of an SDA's lower extents.
+fn lower_product(t: &[u8]) -> usize
+    ensures { λ r. ⌜ (r ≡ extentOr1 (now (t .entry)) 14 * extentOr1 (now (t .entry)) 16) × (r < 4294967296) ⌝ }
+{
+    extent(t, 14) * extent(t, 16)
+}
+
+// How many items an SDA stands for: the product of its extents.
+fn item_count(t: &[u8]) -> usize
+    requires { ⌜ goodLengthSDA (now t) ≡ true ⌝ }
+    ensures { λ r. ⌜ (r ≡ product (extentsOf (now (t .entry)))) × (r < 281474976710656) ⌝ }
+{
+    extent(t, 12) * lower_product(t)
+}
+
+// The layout's number of an SDA whose id, type, parameters and extents are good, else NO_LAYOUT.
+fn sda_layout(t: &[u8], rows: &[u8; 256]) -> u8
+    requires { ⌜ RowTable (now rows) × (goodLengthSDA (now t) ≡ true) ⌝ }
+    ensures { λ r. ⌜ r ≡ layoutIf (goodSDA (now (t .entry))) (codeOf (now (t .entry))) ⌝ }
+{
+    if t[2] == 0 {
+        return field_types::NO_LAYOUT;
+    }
+    if item_count(t) == 0 {
+        return field_types::NO_LAYOUT;
+    }
+    field_types::layout_of(rows, t[3], &t[4..12])
+}
+
+// An SDA's layout and item count, or the number of its refusal.
+pub fn judge_sda(t: &[u8], rows: &[u8; 256], starts: &[u16; 256]) -> Judged
+    requires { ⌜ RowTable (now rows) ⌝ }
+    ensures { λ r. ⌜ JudgedSDA (now (t .entry)) (now (starts .entry)) r ⌝ }
+{
+    if !sda_length(t) {
+        return refused(5);
+    }
+    let layout = sda_layout(t, rows);
+    if layout == field_types::NO_LAYOUT {
+        return refused(6);
+    }
+    let id = numbers::wide(t[2]);
+    if starts[id] != NOWHERE {
+        return refused(7);
+    }
+    let n = item_count(t);
+    if MOST < n {
+        return refused(10);
+    }
+    Judged {
+        number: 0,
+        layout: layout,
+        count: n,
+    }
+}
+
+// The plan's entry for an SDA's field.
+fn plan_entry(t: &[u8], layout: u8) -> u64
+    requires { ⌜ (goodLengthSDA (now t) ≡ true) × (layout ≡ layoutNumber (codeOf (now t))) ⌝ }
+    ensures { λ r. ⌜ EntryOf (now (t .entry)) r ⌝ }
+{
+    let mode = wide64(t[9]) + 256 * wide64(layout);
+    let code = wide64(t[3]) + 256 * mode;
+    let id = wide64(t[2]) + 256 * code;
+    let length = wide64(t[10]) * 256 + wide64(t[11]);
+    length + 65536 * id
+}
+
+// The product by which elements taken is multiplied: 0 without extents.
+fn lower_of(t: &[u8]) -> usize
+    requires { ⌜ goodLengthSDA (now t) ≡ true ⌝ }
+    ensures { λ r. ⌜ r ≡ lowerOf (extentsOf (now (t .entry))) ⌝ }
+{
+    if t.len() == 12 {
+        return 0;
+    }
+    lower_product(t)
+}
+
+// Enters an SDA at p into the tables.
+pub fn put_sda(
+    t: &[u8],
+    p: usize,
+    judged: Judged,
+    starts: &mut [u16; 256],
+    sizes: &mut [u32; 256],
+    entries: &mut [u64; 256],
+)
+    requires { ⌜ (goodLengthSDA (now t) ≡ true) × (goodSDA (now t) ≡ true) × (p < 4096) × (judged .count ≡ product (extentsOf (now t))) × (judged .count ≤ 4096) × (judged .layout ≡ layoutNumber (codeOf (now t))) ⌝ }
+    ensures { λ _. ⌜ PutSDA (now (t .entry)) p (now (starts .entry)) (now (sizes .entry)) (now (entries .entry)) (now (starts .exit)) (now (sizes .exit)) (now (entries .exit)) ⌝ }
+{
+    let id = numbers::wide(t[2]);
+    let lower = lower_of(t);
+    starts[id] = p as u16;
+    sizes[id] = (judged.count + 65536 * lower) as u32;
+    entries[id] = plan_entry(t, judged.layout);
+}
