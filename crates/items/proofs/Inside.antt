@@ -9,8 +9,8 @@ use lib.ListN.{length, drop, length-drop}
 use Rattle.fdoca.specs.FieldType.{Layout}
 use Rattle.fdoca.specs.Item.{refused, item, measureValue, measureItem}
 use Rattle.fdoca.specs.Item as defined
-use Rattle.items.specs.declared.Measured.{Measured}
-use Rattle.items.specs.Answer.{answer}
+use Rattle.terminated.specs.declared.Measured.{Measured}
+use Rattle.terminated.specs.Answer.{answer}
 use Rattle.fdoca.proofs.Outcomes.{Holds, of-value, of-item}
 use Rattle.fdoca.proofs.Within.{Within, within-item}
 

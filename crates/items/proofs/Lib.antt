@@ -1,4 +1,3 @@
 pub mod Inside
-pub mod Scan
 pub mod Ways
 pub mod Shapes

@@ -17,8 +17,9 @@ use Rattle.fdoca.specs.Between.{widthOf, valueLength}
 use Rattle.fdoca.proofs.Outcomes.{of-layout}
 use Rattle.field_types.specs.Rows.{layoutOf}
 use Rattle.numbers.proofs.Pairs.{two-at}
-use Rattle.items.specs.declared.Measured.{Measured}
-use Rattle.items.specs.Answer.{answer, measureIndicator}
+use Rattle.terminated.specs.declared.Measured.{Measured}
+use Rattle.terminated.specs.Answer.{answer}
+use Rattle.items.specs.Answer.{measureIndicator}
 use Rattle.items.specs.Known.{Good, PartsOf}
 use Rattle.items.proofs.Ways.{moved, by-indicator, one-byte}
 

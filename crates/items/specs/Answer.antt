@@ -1,4 +1,4 @@
--- The code's struct as what it stands for in the papers' definitions, and steps of these.
+-- Steps of the papers' definitions of an item's measuring.
 use Prim.Native.Nat.{ℕ, _+_, _-_}
 use mathlib.Core.Bool.{Bool, true, false}
 use mathlib.Core.List.{List, [], _∷_}
@@ -6,12 +6,7 @@ use lib.Dec.{leb, eqb}
 use Rattle.fdoca.specs.Basics.{if_then_else_}
 use Rattle.fdoca.specs.Item.{refused, item, Space, isOver, measureBody}
 use Rattle.fdoca.specs.Item as defined
-use Rattle.items.specs.declared.Measured.{Measured}
-
--- A refusal has its number, no null mark and zeros; a measured item has the number 0.
-unfoldable pub answer : defined.Measured → Measured
-answer (refused n) = record { number = n; null = false; prefix = 0; value = 0; padding = 0 }
-answer (item z p v r) = record { number = 0; null = z; prefix = p; value = v; padding = r }
+use Rattle.terminated.specs.declared.Measured.{Measured}
 
 -- Of `size` bytes that are sent behind a length field of w bytes, the first L are the value.
 unfoldable pub measureSent : (w L size left : ℕ) → defined.Measured

@@ -7,8 +7,8 @@ use native.Mathlib.Omega.{arith}
 use mathlib.Core.List.{List, [], _++_, append-nil, append-assoc}
 use lib.ListN.{length, getD, drop, drop-of-length-le}
 use lib.Seq.{drop-cons}
-use Rattle.items.specs.declared.Measured.{Measured}
-use Rattle.items.specs.Answer.{answer}
+use Rattle.terminated.specs.declared.Measured.{Measured}
+use Rattle.terminated.specs.Answer.{answer}
 use Rattle.walks.specs.Entry.{measureEntry}
 use Rattle.listing.specs.Put.{Put}
 use Rattle.listing.specs.Lines.{startIn, entryLine, entryLines, StartsIn}

@@ -10,7 +10,7 @@ use Rattle.fdoca.specs.Dump.{itemLine, itemLines}
 use Rattle.fdoca.specs.Between.{Stands}
 use Rattle.fdoca.proofs.Cover.{Standing, none-left, one-more}
 use Rattle.plans.specs.Plan.{Proper}
-use Rattle.items.specs.Answer.{answer}
+use Rattle.terminated.specs.Answer.{answer}
 use Rattle.walks.specs.Entry.{measureEntry}
 use Rattle.walks.specs.Marks.{markOf, Noted, nothing}
 use Rattle.walks.proofs.Parts.{code-part, mark-part, entry-measures}

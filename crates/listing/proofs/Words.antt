@@ -9,7 +9,7 @@ use lib.ListN.{length, length-append}
 use lib.Seq.{append-snoc}
 use Rattle.fdoca.specs.Basics.{if_then_else_}
 use Rattle.fdoca.specs.Dump.{decimal, itemsWord, bytesWord, nullWord, refusedWord, refusedLine}
-use Rattle.items.specs.declared.Measured.{Measured}
+use Rattle.terminated.specs.declared.Measured.{Measured}
 use Rattle.listing.specs.Put.{Put}
 use Rattle.listing.specs.Lines.{firstLine, startIn, codeIn, entryLine}
 use Rattle.listing.proofs.Decimal.{few-digits}

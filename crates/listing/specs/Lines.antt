@@ -4,8 +4,8 @@ use mathlib.Core.List.{List, [], _∷_, _++_}
 use lib.ListN.{length, getD, drop}
 use Rattle.fdoca.specs.Basics.{if_then_else_}
 use Rattle.fdoca.specs.Dump.{decimal, itemsWord, bytesWord, nullWord, line}
-use Rattle.items.specs.declared.Measured.{Measured}
-use Rattle.items.specs.Answer.{answer}
+use Rattle.terminated.specs.declared.Measured.{Measured}
+use Rattle.terminated.specs.Answer.{answer}
 use Rattle.walks.specs.Entry.{measureEntry}
 
 -- The first line: how many items there are, and the data's length.

@@ -11,8 +11,8 @@ ghost use Rattle.fdoca.specs.Dump.{decimal, nullWord, refusedLine, blockNotes, 
 ghost use Rattle.descriptors.specs.Holds.{Ready};
 ghost use Rattle.listing.specs.Put.{Put, Told};
 ghost use Rattle.listing.specs.Lines.{firstLine, entryLine, entryLines, StartsIn};
-use items::Measured;
 use numbers::pair;
+use terminated::Measured;
 
 // Where the parts of a marked plan's entry begin: type code and position.
 const CODE: u64 = 16777216;

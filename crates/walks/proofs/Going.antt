@@ -13,8 +13,8 @@ use Rattle.fdoca.specs.FieldType.{nullable}
 use Rattle.fdoca.specs.Item.{Field, refused, item, measureItem, measure}
 use Rattle.fdoca.specs.Walk.{Note, Cut, noteOf, with, cutFrom, walk}
 use Rattle.field_types.specs.Rows.{layoutOf}
-use Rattle.items.specs.declared.Measured.{Measured}
-use Rattle.items.specs.Answer.{answer}
+use Rattle.terminated.specs.declared.Measured.{Measured}
+use Rattle.terminated.specs.Answer.{answer}
 use Rattle.items.proofs.Inside.{Numbered, numbered-item, is-item, is-refused, inside-at}
 use Rattle.plans.specs.Plan.{entryOf, Proper, Planned, empty, entry}
 use Rattle.walks.specs.Entry.{measureEntry}

@@ -10,8 +10,8 @@ use lib.Seq.{drop-cons, append-snoc, set-at, getD-at}
 use Rattle.fdoca.specs.Basics.{refuse, ok}
 use Rattle.fdoca.specs.Item.{Field}
 use Rattle.fdoca.specs.Walk.{Note, walk}
-use Rattle.items.specs.declared.Measured.{Measured}
-use Rattle.items.specs.Answer.{answer}
+use Rattle.terminated.specs.declared.Measured.{Measured}
+use Rattle.terminated.specs.Answer.{answer}
 use Rattle.plans.specs.Plan.{Planned}
 use Rattle.walks.specs.declared.Stop.{Stop}
 use Rattle.walks.specs.Entry.{measureEntry, Stepped}

@@ -13,8 +13,8 @@ use Rattle.fdoca.specs.Item as defined
 use Rattle.fdoca.proofs.Tests.{and-left, and-right}
 use Rattle.fdoca.proofs.Within.{Within, within-item}
 use Rattle.field_types.specs.Rows.{layoutOf}
-use Rattle.items.specs.declared.Measured.{Measured}
-use Rattle.items.specs.Answer.{answer}
+use Rattle.terminated.specs.declared.Measured.{Measured}
+use Rattle.terminated.specs.Answer.{answer}
 use Rattle.items.proofs.Inside.{Numbered, is-item, is-refused}
 use Rattle.walks.specs.Entry.{measureEntry, isPlain, stepOf, Stepped}
 use Rattle.walks.proofs.Going.{long, entry-numbered}

@@ -5,7 +5,7 @@ ghost use mathlib.Core.List.{List};
 ghost use lib.ListN.{length, drop};
 ghost use Rattle.fdoca.specs.Basics.{refuse};
 ghost use Rattle.fdoca.specs.Item.{Field};
-ghost use Rattle.items.specs.Answer.{answer};
+ghost use Rattle.terminated.specs.Answer.{answer};
 ghost use Rattle.plans.specs.Plan.{Planned};
 ghost use Rattle.walks.specs.Entry.{measureEntry, isPlain, Stepped};
 ghost use Rattle.walks.specs.Marks.{marksFrom, Marked, listBy};
@@ -43,7 +43,7 @@ const POSITION: u64 = 281474976710656;
 const REFUSED: usize = 65536;
 
 // The item at a place of the data, by its entry in the plan. It lies within the data.
-pub fn item_at(entry: u64, data: &[u8], at: usize) -> items::Measured
+pub fn item_at(entry: u64, data: &[u8], at: usize) -> terminated::Measured
     requires { ⌜ at ≤ length (now «data») ⌝ }
     ensures { λ r. ⌜ (r ≡ answer (measureEntry entry (drop at (now («data» .entry))))) × (at + (r .prefix + r .value + r .padding) ≤ length (now («data» .entry))) ⌝ }
 {

@@ -1,7 +1,7 @@
 -- `items::indicator` meets its contract.
 -- Assumes nothing.
 use borrow.Author.Needs.{needs}
-use Rattle.items.specs.Answer.{answer}
+use Rattle.terminated.specs.Answer.{answer}
 use Rattle.items.proofs.Ways.{indicator-ways}
 use Rattle.items.proofs.indicator.Statement.{statement}
 use Rattle.items.proofs.indicator.Tie as tie

@@ -1,10 +1,10 @@
--- `items::terminated_value` meets its contract.
+-- `terminated::terminated_value` meets its contract.
 -- Assumes nothing.
 use borrow.Author.Needs.{needs}
 use Rattle.fdoca.proofs.Tests.{tests}
 use Rattle.fdoca.specs.Item.{space}
-use Rattle.items.proofs.terminated_value.Statement.{statement}
-use Rattle.items.proofs.terminated_value.Tie as tie
+use Rattle.terminated.proofs.terminated_value.Statement.{statement}
+use Rattle.terminated.proofs.terminated_value.Tie as tie
 
 endless-requires : tie.Need-endless-requires
 endless-requires c κs = search needs

@@ -1,10 +1,10 @@
--- `items::padded` meets its contract.
+-- `terminated::padded` meets its contract.
 -- Assumes nothing.
 use native.Mathlib.Omega.{arith}
 use borrow.Author.Needs.{needs}
-use Rattle.items.proofs.Ways.{window, padded-ways}
-use Rattle.items.proofs.padded.Statement.{statement}
-use Rattle.items.proofs.padded.Tie as tie
+use Rattle.terminated.proofs.Ways.{window, padded-ways}
+use Rattle.terminated.proofs.padded.Statement.{statement}
+use Rattle.terminated.proofs.padded.Tie as tie
 
 refusal-requires : tie.Need-refusal-requires
 refusal-requires c κs = search needs

@@ -1,13 +1,13 @@
--- `items::first_zero` meets its contract. The invariant: none of the `i` bytes that were passed is zero.
+-- `terminated::first_zero` meets its contract. The invariant: none of the `i` bytes that were passed is zero.
 -- Assumes nothing.
 use Prim.Native.Nat.{_≤_, _+_, _-_}
 use mathlib.Core.Path.{_≡_}
 use borrow.Author.Needs.{needs}
 use lib.ListN.{length, drop}
 use Rattle.fdoca.specs.Item.{beforeZero}
-use Rattle.items.proofs.Scan.{zero-start, zero-first, zero-second, zero-third, zero-fourth, four-later}
-use Rattle.items.proofs.first_zero.Statement.{statement}
-use Rattle.items.proofs.first_zero.Tie as tie
+use Rattle.terminated.proofs.Scan.{zero-start, zero-first, zero-second, zero-third, zero-fourth, four-later}
+use Rattle.terminated.proofs.first_zero.Statement.{statement}
+use Rattle.terminated.proofs.first_zero.Tie as tie
 
 abbrev Inv-loop : tie.InvT-loop
 Inv-loop s i₀ i = (i ≤ length s) × (beforeZero s ≡ i + beforeZero (drop i s))

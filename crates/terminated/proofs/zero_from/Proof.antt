@@ -1,13 +1,13 @@
--- `items::zero_from` meets its contract. The invariant: none of the `i` bytes that were passed is zero.
+-- `terminated::zero_from` meets its contract. The invariant: none of the `i` bytes that were passed is zero.
 -- Assumes nothing.
 use Prim.Native.Nat.{_≤_, _+_, _-_}
 use mathlib.Core.Path.{_≡_}
 use borrow.Author.Needs.{needs}
 use lib.ListN.{length, drop}
 use Rattle.fdoca.specs.Item.{beforeZero}
-use Rattle.items.proofs.Scan.{zero-here, zero-later, zero-none}
-use Rattle.items.proofs.zero_from.Statement.{statement}
-use Rattle.items.proofs.zero_from.Tie as tie
+use Rattle.terminated.proofs.Scan.{zero-here, zero-later, zero-none}
+use Rattle.terminated.proofs.zero_from.Statement.{statement}
+use Rattle.terminated.proofs.zero_from.Tie as tie
 
 abbrev Inv-loop : tie.InvT-loop
 Inv-loop s from i₀ i = (i ≤ length s) × (beforeZero s ≡ i + beforeZero (drop i s))

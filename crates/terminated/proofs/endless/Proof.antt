@@ -1,9 +1,9 @@
--- `items::endless` meets its contract.
+-- `terminated::endless` meets its contract.
 -- Assumes nothing.
 use borrow.Author.Needs.{needs}
-use Rattle.items.proofs.Ways.{endless-ways}
-use Rattle.items.proofs.endless.Statement.{statement}
-use Rattle.items.proofs.endless.Tie as tie
+use Rattle.terminated.proofs.Ways.{endless-ways}
+use Rattle.terminated.proofs.endless.Statement.{statement}
+use Rattle.terminated.proofs.endless.Tie as tie
 
 first-zero-requires : tie.Need-first-zero-requires
 first-zero-requires c κs = search needs

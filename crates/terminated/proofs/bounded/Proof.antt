@@ -1,10 +1,10 @@
--- `items::bounded` meets its contract.
+-- `terminated::bounded` meets its contract.
 -- Assumes nothing.
 use native.Mathlib.Omega.{arith}
 use borrow.Author.Needs.{needs}
-use Rattle.items.proofs.Ways.{window, bounded-ways}
-use Rattle.items.proofs.bounded.Statement.{statement}
-use Rattle.items.proofs.bounded.Tie as tie
+use Rattle.terminated.proofs.Ways.{window, bounded-ways}
+use Rattle.terminated.proofs.bounded.Statement.{statement}
+use Rattle.terminated.proofs.bounded.Tie as tie
 
 endless-requires : tie.Need-endless-requires
 endless-requires c κs = search needs
