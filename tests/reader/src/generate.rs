@@ -11,6 +11,8 @@ pub use edges::{edges, file, files, limits};
 pub use extremes::full_descriptor;
 pub use random::Random;
 
+use std::env;
+
 use crate::field::Field;
 use crate::unfold;
 
@@ -25,6 +27,14 @@ pub struct Case {
     pub data: Vec<u8>,
     pub list_before: Vec<u32>,
     pub item: u32,
+}
+
+/// The seed and the count of cases that a program was called with.
+pub fn seed_and_count() -> Option<(u64, usize)> {
+    let mut words = env::args().skip(1);
+    let seed = words.next()?.parse().ok()?;
+    let count = words.next()?.parse().ok()?;
+    words.next().is_none().then_some((seed, count))
 }
 
 /// An endless run of cases.

@@ -3,22 +3,17 @@
 //! `cases SEED COUNT` writes the fixed cases, then COUNT random ones, to standard output, one
 //! behind the other, each in the form of the dump program's file.
 
-use std::env;
 use std::io::{self, BufWriter, Write};
 use std::process::ExitCode;
 
-use reader::generate::{edges, file, limits, Generator};
+use reader::generate::{edges, file, limits, seed_and_count, Generator};
 
 fn main() -> ExitCode {
-    let arguments: Vec<u64> = env::args()
-        .skip(1)
-        .filter_map(|argument| argument.parse().ok())
-        .collect();
-    let &[seed, count] = &arguments[..] else {
+    let Some((seed, count)) = seed_and_count() else {
         eprintln!("usage: cases SEED COUNT");
         return ExitCode::from(2);
     };
-    match write(seed, count as usize) {
+    match write(seed, count) {
         Ok(()) => ExitCode::SUCCESS,
         Err(error) => {
             eprintln!("{error}");

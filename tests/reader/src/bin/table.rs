@@ -5,11 +5,10 @@
 //! and one line to standard error: how often each number was met by a random case. The exit status is
 //! 1 unless every number from 0 to 18 was met at least ten times.
 
-use std::env;
 use std::io::{self, BufWriter, Write};
 use std::process::ExitCode;
 
-use reader::generate::{edges, files, limits, Case, Generator};
+use reader::generate::{edges, files, limits, seed_and_count, Case, Generator};
 use reader::{dump, Answers};
 
 const CHUNK: usize = 50;
@@ -18,15 +17,11 @@ const FEWEST: u64 = 10;
 const FILES: usize = 100;
 
 fn main() -> ExitCode {
-    let arguments: Vec<u64> = env::args()
-        .skip(1)
-        .filter_map(|argument| argument.parse().ok())
-        .collect();
-    let &[seed, count] = &arguments[..] else {
+    let Some((seed, count)) = seed_and_count() else {
         eprintln!("usage: table SEED COUNT");
         return ExitCode::from(2);
     };
-    match print(seed, count as usize) {
+    match print(seed, count) {
         Ok(met) => {
             eprintln!("{}", counts_line(&met));
             ExitCode::from(u8::from(met.iter().any(|&times| times < FEWEST)))
