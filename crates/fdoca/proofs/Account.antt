@@ -2,7 +2,7 @@
 -- Assumes nothing.
 use mathlib.Core.Path.{_≡_, refl, sym, ap, _∙_}
 use mathlib.Core.Logic.{_≢_}
-use Prim.Native.Nat.{ℕ, suc, _+_, _-_, _*_, _≤_, _<_, min}
+use Prim.Native.Nat.{ℕ, suc, _+_, _-_, _*_, _%_, _≤_, _<_, min}
 use native.Mathlib.Omega.{arith}
 use mathlib.Core.Bool.{Bool, true, false}
 use mathlib.Core.List.{List, [], _∷_, _++_}
@@ -10,10 +10,10 @@ use lib.Dec.{leb, ltb, eqb}
 use lib.ListN.{length, take, drop, length-append, length-drop, take-append-drop}
 use lib.Seq.{take-at, length-take-le}
 use borrow.Author.Tests.{ltb-true, ltb-false, leb-false, eqb-true, eqb-false, lt-ltb, le-ltb, le-leb, lt-leb, eq-eqb, ne-eqb}
-use Rattle.fdoca.specs.Basics.{if_then_else_, big}
-use Rattle.fdoca.specs.FieldType.{FieldType, fixedBytes, variableBytes, terminatedBytes, shortBytes, integer, reversedInteger, hexFloat, reversedFloat, binaryFloat, LengthField, signedTwo, unsignedOne, fixed, ruleOf}
-use Rattle.fdoca.specs.Item.{Field, Measured, refused, item, Space, unbounded, limited, reserved, space, width, isNegative, isOver, unused, indicated, beforeZero, measureFixed, measureBody, measureCounted, measureTerminated, measureValue, measureNullable, measureItem, measure}
-use Rattle.fdoca.specs.Account.{FixedLength, string, binary, binary-reversed, hex-float, float-reversed, float, Reserved, no-limit, value-only, all-sent, NonZero, none-left, one-more, Value, of-length, after-two, after-one, before-zero, Item, plain, null, value, Parts, Begins}
+use Rattle.fdoca.specs.Basics.{if_then_else_, big, inBase}
+use Rattle.fdoca.specs.FieldType.{FieldType, fixedBytes, variableBytes, terminatedBytes, shortBytes, integer, reversedInteger, packedDecimal, hexFloat, reversedFloat, binaryFloat, LengthField, signedTwo, unsignedOne, fixed, Size, bytes, digits, inBytes, ruleOf}
+use Rattle.fdoca.specs.Item.{Field, fieldLength, Measured, refused, item, Space, unbounded, limited, reserved, space, width, isNegative, isOver, unused, indicated, beforeZero, measureFixed, measureBody, measureCounted, measureTerminated, measureValue, measureNullable, measureItem, measure}
+use Rattle.fdoca.specs.Account.{FixedLength, string, binary, binary-reversed, packed, hex-float, float-reversed, float, Fills, of-bytes, of-half-bytes, one-unused, Reserved, no-limit, value-only, all-sent, NonZero, none-left, one-more, Value, of-size, after-two, after-one, before-zero, Item, plain, null, value, Parts, Begins}
 use Rattle.fdoca.proofs.Tests.{by-test, by-le, by-lt}
 
 -- what measuring says of an item's parts
@@ -22,11 +22,11 @@ sizes x = item (x .isNull) (length (x .prefix)) (length (x .value)) (length (x .
 
 -- the number of one byte, and of two
 pub big-one : (a : ℕ) → big (a ∷ []) ≡ a
-unfolding big
+unfolding big inBase
 big-one a = omega arith
 
 pub big-two : (a b : ℕ) → big (a ∷ b ∷ []) ≡ a * 256 + b
-unfolding big
+unfolding big inBase
 big-two a b = omega arith
 
 -- An item of the account is measured.
@@ -36,6 +36,7 @@ unfolding ruleOf
 fixed-layout string = refl
 fixed-layout binary = refl
 fixed-layout binary-reversed = refl
+fixed-layout packed = refl
 fixed-layout hex-float = refl
 fixed-layout float-reversed = refl
 fixed-layout float = refl
@@ -72,6 +73,20 @@ left-over : {mode F n : ℕ} {r : List ℕ} → Reserved mode F n r → (isOver 
 left-over {mode} {F} {n} (no-limit e) = rw (space-none mode F e) (refl, refl)
 left-over {mode} {F} {n} (value-only h k l) = rw (space-limit mode F h k) (le-ltb F n l, refl)
 left-over {mode} {F} {n} (all-sent h e l) = rw (space-full mode F h e) (le-ltb F n (omega arith), omega arith)
+
+-- the bytes that fill a size are as many as it has
+filled : {z : Size} {v : List ℕ} → Fills z v → length v ≡ inBytes z
+filled (of-bytes e) = e
+filled (of-half-bytes e) = omega arith
+filled (one-unused e) = omega arith
+
+fill : (z : Size) (v : List ℕ) → length v ≡ inBytes z → Fills z v
+fill (bytes F) v e = of-bytes e
+fill (digits p fraction) v e = go (eqb (p % 2) 0) refl
+  where
+    go : (b : Bool) → eqb (p % 2) 0 ≡ b → Fills (digits p fraction) v
+    go true t = one-unused {p = p} {v = v} (omega (arith, eqb-true (p % 2) 0 t))
+    go false t = of-half-bytes {p = p} {v = v} (omega (arith, eqb-false (p % 2) 0 t))
 
 measured-fixed : (F : ℕ) (v rest : List ℕ) → length v ≡ F → measureFixed F (v ++ rest) ≡ item false 0 (length v) 0
 unfolding measureFixed
@@ -117,24 +132,24 @@ measured-terminated mode F v r rest (all-sent h e l) nz =
       q,
     )
 
-measured-value : (mode F : ℕ) (T : FieldType) (p v r rest : List ℕ) → Value mode F T p v r
-    → measureValue (ruleOf T .layout) mode F (p ++ (v ++ (r ++ rest))) ≡ item false (length p) (length v) (length r)
+measured-value : (mode : ℕ) (z : Size) (T : FieldType) (p v r rest : List ℕ) → Value mode z T p v r
+    → measureValue (ruleOf T .layout) mode (inBytes z) (p ++ (v ++ (r ++ rest))) ≡ item false (length p) (length v) (length r)
 unfolding measureValue ruleOf
-measured-value mode F T p v r rest (of-length t e) = rw (fixed-layout t) (measured-fixed F v rest e)
-measured-value mode F T p v r rest (after-two {a = a} {b = b} e h res) =
-    measured-counted signedTwo (a ∷ b ∷ []) mode F v r rest res refl (big-two a b ∙ e) (lt-leb 0x8000 (length v) h)
-measured-value mode F T p v r rest (after-one {a = a} e res) =
-    measured-counted unsignedOne (a ∷ []) mode F v r rest res refl (big-one a ∙ e) refl
-measured-value mode F T p v r rest (before-zero {r = r′} nz res) = measured-terminated mode F v r′ rest res nz
+measured-value mode z T p v r rest (of-size t e) = rw (fixed-layout t) (measured-fixed (inBytes z) v rest (filled e))
+measured-value mode z T p v r rest (after-two {a = a} {b = b} e h res) =
+    measured-counted signedTwo (a ∷ b ∷ []) mode (inBytes z) v r rest res refl (big-two a b ∙ e) (lt-leb 0x8000 (length v) h)
+measured-value mode z T p v r rest (after-one {a = a} e res) =
+    measured-counted unsignedOne (a ∷ []) mode (inBytes z) v r rest res refl (big-one a ∙ e) refl
+measured-value mode z T p v r rest (before-zero {r = r′} nz res) = measured-terminated mode (inBytes z) v r′ rest res nz
 
 measured-item : (f : Field) (z : Bool) (p v r rest : List ℕ) → Item f z p v r
     → measure f (p ++ (v ++ (r ++ rest))) ≡ item z (length p) (length v) (length r)
 unfolding measure measureItem measureNullable
-measured-item f z p v r rest (plain h w) = rw (lt-leb 128 (f .code) h) (measured-value (f .mode) (f .fieldLength) (f .type) p v r rest w)
+measured-item f z p v r rest (plain h w) = rw (lt-leb 128 (f .code) h) (measured-value (f .mode) (f .size) (f .type) p v r rest w)
 measured-item f z p v r rest (null {b = b} h k) = rw (le-leb 128 (f .code) h, le-leb 128 b k)
 measured-item f z p v r rest (value {b = b} {p = p′} h k w) =
     let e : 1 + length p′ ≡ suc (length p′) = omega arith in
-    rw (le-leb 128 (f .code) h, lt-leb 128 b k, measured-value (f .mode) (f .fieldLength) (f .type) p′ v r rest w) (cc)
+    rw (le-leb 128 (f .code) h, lt-leb 128 b k, measured-value (f .mode) (f .size) (f .type) p′ v r rest w) (cc)
 
 -- What is measured is an item of the account.
 
@@ -155,13 +170,14 @@ Parsed G s (refused k) = Unit {0}
 Parsed G s (item z p v r) = Found (G z) s p v r
 
 -- a value has no null mark
-data Plain (mode F : ℕ) (T : FieldType) : Bool → List ℕ → List ℕ → List ℕ → Type 0 where
-  no-null : {p v r : List ℕ} → Value mode F T p v r → Plain mode F T false p v r
+data Plain (mode : ℕ) (z : Size) (T : FieldType) : Bool → List ℕ → List ℕ → List ℕ → Type 0 where
+  no-null : {p v r : List ℕ} → Value mode z T p v r → Plain mode z T false p v r
 
-parsed-fixed : (mode F : ℕ) (T : FieldType) (s : List ℕ) → FixedLength T → Parsed (Plain mode F T) s (measureFixed F s)
+parsed-fixed : (mode : ℕ) (z : Size) (T : FieldType) (s : List ℕ) → FixedLength T → Parsed (Plain mode z T) s (measureFixed (inBytes z) s)
 unfolding measureFixed
-parsed-fixed mode F T s t =
-    by-le (Parsed (Plain mode F T) s) F (length s)
+parsed-fixed mode z T s t =
+    let F : ℕ = inBytes z in
+    by-le (Parsed (Plain mode z T) s) F (length s)
     (λ h. let e : length (take F s) ≡ F = length-take-le F s h in
     record {
       prefix = [];
@@ -169,7 +185,7 @@ parsed-fixed mode F T s t =
       padding = [];
       rest = drop F s;
       split = sym (take-append-drop F s);
-      kind = no-null (of-length t e);
+      kind = no-null (of-size t (fill z (take F s) e));
       prefix-length = refl;
       value-length = e;
       padding-length = refl;
@@ -191,7 +207,10 @@ reserved-of mode F n r = go (eqb F 0) (eqb mode 0) refl refl
     go false true t u h e = let l : n + length r ≡ F = omega (arith, ltb-false F n h) in all-sent (eqb-false F 0 t) (eqb-true mode 0 u) l
     go false false t u h e = nil r e (value-only (eqb-false F 0 t) (eqb-false mode 0 u) (ltb-false F n h))
 
-module _ (k : LengthField) (mode F : ℕ) (s : List ℕ) where
+module _ (k : LengthField) (mode : ℕ) (z : Size) (s : List ℕ) where
+  abbrev F : ℕ
+  F = inBytes z
+
   sp : Space
   sp = space mode F
 
@@ -200,8 +219,8 @@ module _ (k : LengthField) (mode F : ℕ) (s : List ℕ) where
 
   -- the parts of an item with a length field
   counted-parts : (T : FieldType) → width k ≤ length s → isNegative k L ≡ false → isOver sp L ≡ false → L + unused sp L ≤ length s - width k
-      → ((c v r : List ℕ) → length c ≡ width k → big c ≡ length v → isNegative k (length v) ≡ false → Reserved mode F (length v) r → Value mode F T c v r)
-      → Found (Plain mode F T false) s (width k) L (unused sp L)
+      → ((c v r : List ℕ) → length c ≡ width k → big c ≡ length v → isNegative k (length v) ≡ false → Reserved mode F (length v) r → Value mode z T c v r)
+      → Found (Plain mode z T false) s (width k) L (unused sp L)
   unfolding sp L
   counted-parts T h₁ h₂ h₃ h₄ make =
       let w : ℕ = width k in
@@ -225,8 +244,8 @@ module _ (k : LengthField) (mode F : ℕ) (s : List ℕ) where
       }
 
   parsed-counted : (T : FieldType)
-      → ((c v r : List ℕ) → length c ≡ width k → big c ≡ length v → isNegative k (length v) ≡ false → Reserved mode F (length v) r → Value mode F T c v r)
-      → Parsed (Plain mode F T) s (measureCounted k (space mode F) s)
+      → ((c v r : List ℕ) → length c ≡ width k → big c ≡ length v → isNegative k (length v) ≡ false → Reserved mode F (length v) r → Value mode z T c v r)
+      → Parsed (Plain mode z T) s (measureCounted k (space mode F) s)
   unfolding measureCounted measureBody sp L
   parsed-counted T make =
       by-lt P (length s) (width k) (λ h. tt)
@@ -235,21 +254,21 @@ module _ (k : LengthField) (mode F : ℕ) (s : List ℕ) where
       (λ h₃. by-le P (L + unused sp L) (length s - width k) (λ h₄. counted-parts T h₁ h₂ h₃ h₄ make) (λ h. tt))))
     where
       P : Measured → Type 0
-      P = Parsed (Plain mode F T) s
+      P = Parsed (Plain mode z T) s
 
 -- the length fields of X'02' and X'07'
-two-bytes : (mode F : ℕ) (c v r : List ℕ) → length c ≡ 2 → big c ≡ length v → isNegative signedTwo (length v) ≡ false → Reserved mode F (length v) r
-    → Value mode F variableBytes c v r
-two-bytes mode F (a ∷ b ∷ []) v r n e h q = after-two (sym (big-two a b) ∙ e) (leb-false 0x8000 (length v) h) q
-two-bytes mode F [] v r n e h q = absurd (let z : ⊥ = omega arith in z)
-two-bytes mode F (a ∷ []) v r n e h q = absurd (let z : ⊥ = omega arith in z)
-two-bytes mode F (a ∷ b ∷ c ∷ d) v r n e h q = absurd (let z : ⊥ = omega arith in z)
+two-bytes : (mode : ℕ) (z : Size) (c v r : List ℕ) → length c ≡ 2 → big c ≡ length v → isNegative signedTwo (length v) ≡ false
+    → Reserved mode (inBytes z) (length v) r → Value mode z variableBytes c v r
+two-bytes mode y (a ∷ b ∷ []) v r n e h q = after-two (sym (big-two a b) ∙ e) (leb-false 0x8000 (length v) h) q
+two-bytes mode y [] v r n e h q = absurd (let w : ⊥ = omega arith in w)
+two-bytes mode y (a ∷ []) v r n e h q = absurd (let w : ⊥ = omega arith in w)
+two-bytes mode y (a ∷ b ∷ c ∷ d) v r n e h q = absurd (let w : ⊥ = omega arith in w)
 
-one-byte : (mode F : ℕ) (c v r : List ℕ) → length c ≡ 1 → big c ≡ length v → isNegative unsignedOne (length v) ≡ false → Reserved mode F (length v) r
-    → Value mode F shortBytes c v r
-one-byte mode F (a ∷ []) v r n e h q = after-one (sym (big-one a) ∙ e) q
-one-byte mode F [] v r n e h q = absurd (let z : ⊥ = omega arith in z)
-one-byte mode F (a ∷ b ∷ c) v r n e h q = absurd (let z : ⊥ = omega arith in z)
+one-byte : (mode : ℕ) (z : Size) (c v r : List ℕ) → length c ≡ 1 → big c ≡ length v → isNegative unsignedOne (length v) ≡ false
+    → Reserved mode (inBytes z) (length v) r → Value mode z shortBytes c v r
+one-byte mode y (a ∷ []) v r n e h q = after-one (sym (big-one a) ∙ e) q
+one-byte mode y [] v r n e h q = absurd (let w : ⊥ = omega arith in w)
+one-byte mode y (a ∷ b ∷ c) v r n e h q = absurd (let w : ⊥ = omega arith in w)
 
 -- before the first zero byte no byte is zero, and there it stands
 pub zero-at : (s : List ℕ)
@@ -262,17 +281,20 @@ zero-at (b ∷ s) =
     (λ e. (none-left, λ h. ap (λ x. x ∷ s) (eqb-true b 0 e)))
     (λ e. (one-more (eqb-false b 0 e) (ih .0), λ h. ih .1 (omega arith)))
 
-module _ (mode F : ℕ) (s : List ℕ) where
+module _ (mode : ℕ) (y : Size) (s : List ℕ) where
+  abbrev G′ : ℕ
+  G′ = inBytes y
+
   -- the parts of an item with r bytes behind its zero byte
-  terminated-parts : (r : ℕ) → beforeZero s + suc r ≤ length s → ((x : List ℕ) → length x ≡ r → Reserved mode F (beforeZero s) x)
-      → Found (Plain mode F terminatedBytes false) s 0 (beforeZero s) (suc r)
+  terminated-parts : (r : ℕ) → beforeZero s + suc r ≤ length s → ((x : List ℕ) → length x ≡ r → Reserved mode G′ (beforeZero s) x)
+      → Found (Plain mode y terminatedBytes false) s 0 (beforeZero s) (suc r)
   terminated-parts r h fill =
       let k : ℕ = beforeZero s in
       let e₁ : length (take k s) ≡ k = length-take-le k s (omega arith) in
       let d : length (drop (suc k) s) ≡ length s - suc k = length-drop (suc k) s in
       let e₂ : length (take r (drop (suc k) s)) ≡ r = length-take-le r (drop (suc k) s) (omega arith) in
       let z : drop k s ≡ 0 ∷ drop (suc k) s = zero-at s .1 (omega arith) in
-      let q : Reserved mode F (length (take k s)) (take r (drop (suc k) s)) = rw e₁ (fill _ e₂) in
+      let q : Reserved mode G′ (length (take k s)) (take r (drop (suc k) s)) = rw e₁ (fill _ e₂) in
       let l : s ≡ take k s ++ (0 ∷ (take r (drop (suc k) s) ++ drop r (drop (suc k) s))) = rw (take-append-drop r (drop (suc k) s), ← z) (sym (take-append-drop k s)) in
       record {
         prefix = [];
@@ -287,40 +309,41 @@ module _ (mode F : ℕ) (s : List ℕ) where
       }
 
   -- nothing but the zero byte, and the space that is left
-  end-only : (sp : Space) → space mode F ≡ sp → isOver sp (beforeZero s) ≡ false → unused sp (beforeZero s) ≡ 0 → beforeZero s < length s
-      → Found (Plain mode F terminatedBytes false) s 0 (beforeZero s) 1
-  end-only sp e o u h = terminated-parts 0 (omega arith) (λ x n. reserved-of mode F (beforeZero s) x (rw e o) (rw (e, u) n))
+  end-only : (sp : Space) → space mode G′ ≡ sp → isOver sp (beforeZero s) ≡ false → unused sp (beforeZero s) ≡ 0 → beforeZero s < length s
+      → Found (Plain mode y terminatedBytes false) s 0 (beforeZero s) 1
+  end-only sp e o u h = terminated-parts 0 (omega arith) (λ x n. reserved-of mode G′ (beforeZero s) x (rw e o) (rw (e, u) n))
 
-  parsed-terminated : (sp : Space) → space mode F ≡ sp → Parsed (Plain mode F terminatedBytes) s (measureTerminated sp s)
+  parsed-terminated : (sp : Space) → space mode G′ ≡ sp → Parsed (Plain mode y terminatedBytes) s (measureTerminated sp s)
   unfolding measureTerminated
   parsed-terminated unbounded e =
-      by-lt (Parsed (Plain mode F terminatedBytes) s) (beforeZero s) (length s) (λ h. end-only unbounded e refl refl h) (λ h. tt)
+      by-lt (Parsed (Plain mode y terminatedBytes) s) (beforeZero s) (length s) (λ h. end-only unbounded e refl refl h) (λ h. tt)
   parsed-terminated (limited G) e =
-      by-lt (Parsed (Plain mode F terminatedBytes) s) (beforeZero s) (min (G + 1) (length s))
+      by-lt (Parsed (Plain mode y terminatedBytes) s) (beforeZero s) (min (G + 1) (length s))
       (λ h. end-only (limited G) e (le-ltb G (beforeZero s) (omega arith)) refl (omega arith))
-      (λ h. by-lt (Parsed (Plain mode F terminatedBytes) s) (length s) (G + 1) (λ k. tt) (λ k. tt))
+      (λ h. by-lt (Parsed (Plain mode y terminatedBytes) s) (length s) (G + 1) (λ k. tt) (λ k. tt))
   parsed-terminated (reserved G) e =
-      by-lt (Parsed (Plain mode F terminatedBytes) s) (length s) (G + 1) (λ h. tt)
-      (λ h. by-le (Parsed (Plain mode F terminatedBytes) s) (beforeZero s) G
+      by-lt (Parsed (Plain mode y terminatedBytes) s) (length s) (G + 1) (λ h. tt)
+      (λ h. by-le (Parsed (Plain mode y terminatedBytes) s) (beforeZero s) G
       (λ k. let q : suc (G - beforeZero s) ≡ G + 1 - beforeZero s = omega arith in
-      rw q at (terminated-parts (G - beforeZero s) (omega arith) (λ x n. reserved-of mode F (beforeZero s) x (rw e (le-ltb G (beforeZero s) k)) (rw e n))))
+      rw q at (terminated-parts (G - beforeZero s) (omega arith) (λ x n. reserved-of mode G′ (beforeZero s) x (rw e (le-ltb G (beforeZero s) k)) (rw e n))))
       (λ k. tt))
 
-parsed-value : (mode F : ℕ) (T : FieldType) (s : List ℕ) → Parsed (Plain mode F T) s (measureValue (ruleOf T .layout) mode F s)
+parsed-value : (mode : ℕ) (z : Size) (T : FieldType) (s : List ℕ) → Parsed (Plain mode z T) s (measureValue (ruleOf T .layout) mode (inBytes z) s)
 unfolding measureValue ruleOf
-parsed-value mode F fixedBytes s = parsed-fixed mode F fixedBytes s string
-parsed-value mode F variableBytes s = parsed-counted signedTwo mode F s variableBytes (two-bytes mode F)
-parsed-value mode F terminatedBytes s = parsed-terminated mode F s (space mode F) refl
-parsed-value mode F shortBytes s = parsed-counted unsignedOne mode F s shortBytes (one-byte mode F)
-parsed-value mode F integer s = parsed-fixed mode F integer s binary
-parsed-value mode F reversedInteger s = parsed-fixed mode F reversedInteger s binary-reversed
-parsed-value mode F hexFloat s = parsed-fixed mode F hexFloat s hex-float
-parsed-value mode F reversedFloat s = parsed-fixed mode F reversedFloat s float-reversed
-parsed-value mode F binaryFloat s = parsed-fixed mode F binaryFloat s float
+parsed-value mode z fixedBytes s = parsed-fixed mode z fixedBytes s string
+parsed-value mode z variableBytes s = parsed-counted signedTwo mode z s variableBytes (two-bytes mode z)
+parsed-value mode z terminatedBytes s = parsed-terminated mode z s (space mode (inBytes z)) refl
+parsed-value mode z shortBytes s = parsed-counted unsignedOne mode z s shortBytes (one-byte mode z)
+parsed-value mode z integer s = parsed-fixed mode z integer s binary
+parsed-value mode z reversedInteger s = parsed-fixed mode z reversedInteger s binary-reversed
+parsed-value mode z packedDecimal s = parsed-fixed mode z packedDecimal s packed
+parsed-value mode z hexFloat s = parsed-fixed mode z hexFloat s hex-float
+parsed-value mode z reversedFloat s = parsed-fixed mode z reversedFloat s float-reversed
+parsed-value mode z binaryFloat s = parsed-fixed mode z binaryFloat s float
 
 module _ (f : Field) where
   abbrev OfField : Bool → List ℕ → List ℕ → List ℕ → Type 0
-  OfField = Plain (f .mode) (f .fieldLength) (f .type)
+  OfField = Plain (f .mode) (f .size) (f .type)
 
   parsed-plain : (s : List ℕ) (m : Measured) → f .code < 128 → Parsed OfField s m → Parsed (Item f) s m
   parsed-plain s (refused k) h x = tt
@@ -358,7 +381,7 @@ module _ (f : Field) where
       go : {z : Bool} {p v r : List ℕ} → OfField z p v r → Item f z (b ∷ p) v r
       go (no-null y) = value h g y
 
-  parsed-nullable : (s : List ℕ) → 128 ≤ f .code → Parsed (Item f) s (measureNullable (ruleOf (f .type) .layout) (f .mode) (f .fieldLength) s)
+  parsed-nullable : (s : List ℕ) → 128 ≤ f .code → Parsed (Item f) s (measureNullable (ruleOf (f .type) .layout) (f .mode) (fieldLength f) s)
   unfolding measureNullable
   parsed-nullable [] h = tt
   parsed-nullable (b ∷ s) h =
@@ -374,14 +397,14 @@ module _ (f : Field) where
         value-length = refl;
         padding-length = refl;
       })
-      (λ k. parsed-indicated b s (measureValue (ruleOf (f .type) .layout) (f .mode) (f .fieldLength) s) h k
-      (parsed-value (f .mode) (f .fieldLength) (f .type) s))
+      (λ k. parsed-indicated b s (measureValue (ruleOf (f .type) .layout) (f .mode) (fieldLength f) s) h k
+      (parsed-value (f .mode) (f .size) (f .type) s))
 
   parsed : (s : List ℕ) → Parsed (Item f) s (measure f s)
   unfolding measure measureItem
   parsed s =
       by-le (Parsed (Item f) s) 128 (f .code) (λ h. parsed-nullable s h)
-      (λ h. parsed-plain s (measureValue (ruleOf (f .type) .layout) (f .mode) (f .fieldLength) s) h (parsed-value (f .mode) (f .fieldLength) (f .type) s))
+      (λ h. parsed-plain s (measureValue (ruleOf (f .type) .layout) (f .mode) (fieldLength f) s) h (parsed-value (f .mode) (f .size) (f .type) s))
 
   -- What is measured is an item of the account, with the same null mark and the same lengths.
   pub measure-sound : (s : List ℕ) (z : Bool) (p v r : ℕ) → measure f s ≡ item z p v r → (x : Parts) × Begins f s x × (sizes x ≡ item z p v r)

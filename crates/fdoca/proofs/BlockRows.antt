@@ -237,15 +237,21 @@ notes-number p (next {f = f} x i b) = ap suc (notes-number (p + itemLength (note
 
 module _ (fs : List Field) (s : List ℕ) (ns : List Note) (k : ℕ) (e : walk fs s ≡ ok ns) where
   -- An item that starts somewhere is noted there,
+  pub starts-noted : (f : Field) (q : ℕ) (rest : List ℕ) → StartsAt fs s k f q rest
+      → (i : Note) × (getElem? ns k ≡ some i) × (noteOf f q (measure f rest) ≡ ok i)
+  starts-noted f q rest x =
+      let (c, h, _, o) = walk-cut fs s ns e in
+      let n : Noted x (found x .notes) c = ok-of (rw (all-cut x c h) at (cut-with x (x .after))) in
+      let l : length (found x .notes) ≡ k = notes-number 0 (x .block) ∙ x .number in
+      let t : getElem? ns k ≡ some (n .note) = ap (λ l. getElem? l k) (sym o ∙ n .notes-are) ∙ ap (getElem? (found x .notes ++ (n .note ∷ n .later))) (sym l) ∙ nth-at (found x .notes) (n .note) (n .later) in
+      (n .note, t, n .noted)
+
   pub starts-unique : (f : Field) (q : ℕ) (rest : List ℕ) → StartsAt fs s k f q rest
       → (i : Note) × (getElem? ns k ≡ some i) × (i .field ≡ f) × (i .start ≡ q)
   starts-unique f q rest x =
-      let (c, h, _, o) = walk-cut fs s ns e in
-      let n : Noted x (found x .notes) c = ok-of (rw (all-cut x c h) at (cut-with x (x .after))) in
-      let (_, _, _, _, _, a, b) = noted-as f q (measure f rest) (n .note) (n .noted) in
-      let l : length (found x .notes) ≡ k = notes-number 0 (x .block) ∙ x .number in
-      let t : getElem? ns k ≡ some (n .note) = ap (λ l. getElem? l k) (sym o ∙ n .notes-are) ∙ ap (getElem? (found x .notes ++ (n .note ∷ n .later))) (sym l) ∙ nth-at (found x .notes) (n .note) (n .later) in
-      (n .note, t, a, b)
+      let (i, t, n) = starts-noted f q rest x in
+      let (_, _, _, _, _, a, b) = noted-as f q (measure f rest) i n in
+      (i, t, a, b)
 
   -- and an item that is noted starts there.
   starts-somewhere : Field → k < length fs → (f : Field) × (q : ℕ) × (rest : List ℕ) × StartsAt fs s k f q rest

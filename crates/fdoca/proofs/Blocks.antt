@@ -54,12 +54,12 @@ unfolding walk
 walk-complete fs xs s b = rw (rw (append-nil s) at (cut-block 0 fs xs s [] b))
 
 -- a note is that of an item's parts, with which the bytes begin
-record NotedAs (f : Field) (p : ℕ) (s : List ℕ) (n : Note) : Type 0 where
-  parts : Parts
-  begins : Begins f s parts
-  same : n ≡ noteOfParts p f parts
+pub record NotedAs (f : Field) (p : ℕ) (s : List ℕ) (n : Note) : Type 0 where
+  pub parts : Parts
+  pub begins : Begins f s parts
+  pub same : n ≡ noteOfParts p f parts
 
-note-sound : (f : Field) (p : ℕ) (s : List ℕ) → IfOk (NotedAs f p s) (noteOf f p (measure f s))
+pub note-sound : (f : Field) (p : ℕ) (s : List ℕ) → IfOk (NotedAs f p s) (noteOf f p (measure f s))
 unfolding noteOf
 note-sound f p s = go (measure f s) refl
   where
@@ -135,7 +135,7 @@ pub walk-sound : (fs : List Field) (s : List ℕ) (ns : List Note) → walk fs s
 walk-sound fs s ns e = ok-of (rw e at (accepted fs s))
 
 -- the parts with which bytes begin, from their lengths
-first-parts : (x : Parts) (s t : List ℕ) → s ≡ onto x t
+pub first-parts : (x : Parts) (s t : List ℕ) → s ≡ onto x t
     → (x .prefix ≡ take (length (x .prefix)) s)
     × (x .value ≡ take (length (x .value)) (drop (length (x .prefix)) s))
     × (x .padding ≡ take (length (x .padding)) (drop (length (x .prefix) + length (x .value)) s))
@@ -151,7 +151,7 @@ abbrev made : Bool → List ℕ → List ℕ → List ℕ → Parts
 made z p v r = record { isNull = z; prefix = p; value = v; padding = r }
 
 -- two items with which the same bytes begin
-same-parts : (f : Field) (s : List ℕ) (x y : Parts) → Begins f s x → Begins f s y → x ≡ y
+pub same-parts : (f : Field) (s : List ℕ) (x y : Parts) → Begins f s x → Begins f s y → x ≡ y
 same-parts f s x y a b =
     let e : sizes x ≡ sizes y = sym (measure-complete f s x a) ∙ measure-complete f s y b in
     let z : x .isNull ≡ y .isNull = cc in

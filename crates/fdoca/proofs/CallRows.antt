@@ -11,7 +11,7 @@ use lib.IntN.{ℤ, pos}
 use lib.ListN.{length, getElem?, length-map}
 use borrow.Author.Tests.{ltb-true, ltb-false}
 use Rattle.fdoca.specs.Basics.{if_then_else_, Result, refuse, ok, _>>=_, _>>_, reject, the}
-use Rattle.fdoca.specs.FieldType.{FieldType, fixedBytes, variableBytes, terminatedBytes, shortBytes, integer, reversedInteger, hexFloat, reversedFloat, binaryFloat, plain, typeOf}
+use Rattle.fdoca.specs.FieldType.{FieldType, fixedBytes, variableBytes, terminatedBytes, shortBytes, integer, reversedInteger, packedDecimal, hexFloat, reversedFloat, binaryFloat, plain, typeOf}
 use Rattle.fdoca.specs.Item.{Field}
 use Rattle.fdoca.specs.Walk.{Note, walk}
 use Rattle.fdoca.specs.Check.{maxDescriptor, check}
@@ -103,7 +103,7 @@ told-after {A} {B} x y h a b = rw (same x y) (told-then x (λ i. y) h a (λ i e.
     same (refuse m p) y = refl
     same (ok a) y = refl
 
-told-made : {A B : Type 0} {P : List ℕ → ℕ → ℕ → Type 0} (x : Result A) (f : A → B) → Told P x → Told P (x >>= (λ a. ok (f a)))
+pub told-made : {A B : Type 0} {P : List ℕ → ℕ → ℕ → Type 0} (x : Result A) (f : A → B) → Told P x → Told P (x >>= (λ a. ok (f a)))
 told-made x f (refused h) = refused h
 told-made x f (accepted h) = accepted h
 
@@ -227,17 +227,17 @@ module _ (d s : List ℕ) (k : ℕ) where
     another : {q : ℕ} {f : Field} {rest : List ℕ} → StartsAt (unfolded d) s k f q rest → (HasType f 0x23 → ⊥) → (HasType f 0x24 → ⊥) → WrongKind (8 ∷ []) 18 q
 
   module _ (i : Note) (e : itemAt d s k ≡ ok i) where
-    found : FoundIn d s k i
+    pub found : FoundIn d s k i
     found = found-in d s k i e
 
-    typed : typeOf (i .field .code) ≡ some (i .field .type)
+    pub typed : typeOf (i .field .code) ≡ some (i .field .type)
     typed = item-good d s k i e .field-good .typed
 
-    has-type : HasType (i .field) (plainCode (i .field .type))
+    pub has-type : HasType (i .field) (plainCode (i .field .type))
     unfolding typeOf
     has-type = rw (plain-code (plain (i .field .code)) (i .field .type) typed .0) at (has-plain (i .field))
 
-    starts : (q : ℕ) (f : Field) (rest : List ℕ) → StartsAt (unfolded d) s k f q rest → (i .field ≡ f) × (i .start ≡ q)
+    pub starts : (q : ℕ) (f : Field) (rest : List ℕ) → StartsAt (unfolded d) s k f q rest → (i .field ≡ f) × (i .start ≡ q)
     starts q f rest x =
         let (j, a, b, c) = starts-unique (unfolded d) s (found .notes) k (found .walks) f q rest x in
         let g : getElem? (found .notes) k ≡ some i = found .is-item in
@@ -253,6 +253,7 @@ module _ (d s : List ℕ) (k : ℕ) where
     whole-type variableBytes t h a b = let z : _≡_ {A = ℕ} 0 1 = cc in let w : ⊥ = omega arith in w
     whole-type terminatedBytes t h a b = let z : _≡_ {A = ℕ} 0 1 = cc in let w : ⊥ = omega arith in w
     whole-type shortBytes t h a b = let z : _≡_ {A = ℕ} 0 1 = cc in let w : ⊥ = omega arith in w
+    whole-type packedDecimal t h a b = let z : _≡_ {A = ℕ} 0 1 = cc in let w : ⊥ = omega arith in w
     whole-type hexFloat t h a b = let z : _≡_ {A = ℕ} 0 1 = cc in let w : ⊥ = omega arith in w
     whole-type reversedFloat t h a b = let z : _≡_ {A = ℕ} 0 1 = cc in let w : ⊥ = omega arith in w
     whole-type binaryFloat t h a b = let z : _≡_ {A = ℕ} 0 1 = cc in let w : ⊥ = omega arith in w
@@ -291,7 +292,7 @@ module _ (d s : List ℕ) (k : ℕ) where
   of-whole t m p (state r) = inl r
   of-whole t m p (wrong-kind x a b) = inr (another x a b)
 
-  state-from : (t : List ℕ) (m p : ℕ) → OfState d s k t m p → From 1 7 t
+  pub state-from : (t : List ℕ) (m p : ℕ) → OfState d s k t m p → From 1 7 t
   state-from t m p (OfState.block r) = wider 1 7 (omega arith) (omega arith) (block-from r)
   state-from t m p (no-such-item h) = from 1 7 7 [] (omega arith) (omega arith)
 

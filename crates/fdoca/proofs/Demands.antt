@@ -6,23 +6,25 @@
 -- Assumes nothing.
 use mathlib.Core.Path.{_≡_, refl, sym, ap, _∙_}
 use mathlib.Core.Logic.{_↔_}
-use Prim.Native.Nat.{ℕ, _+_, _*_, _≤_, _<_}
+use Prim.Native.Nat.{ℕ, _+_, _*_, _/_, _≤_, _<_}
 use native.Mathlib.Omega.{arith}
 use mathlib.Core.Bool.{Bool, true, false, _||_}
 use mathlib.Core.List.{List, [], map}
-use mathlib.Core.Option.{some}
+use mathlib.Core.Option.{Option, none, some}
 use lib.Dec.{ltb}
 use lib.IntN.{ℤ, pos}
 use lib.ListN.{length, drop, getElem?}
 use borrow.Author.Tests.{le-ltb}
 use Rattle.fdoca.specs.Basics.{if_then_else_, Result, refuse, ok, _>>=_, _>>_, reject, the}
+use Rattle.fdoca.specs.FieldType.{digits, fixed, ruleOf}
 use Rattle.fdoca.specs.Item.{Field}
 use Rattle.fdoca.specs.Walk.{Note, walk}
 use Rattle.fdoca.specs.Check.{maxDescriptor, check}
 use Rattle.fdoca.specs.Unfolding.{unfolded}
-use Rattle.fdoca.specs.Account.{Parts, Block}
-use Rattle.fdoca.specs.Calls.{maxData, oversize, itemList, list, itemAt, valueOf, wholeOf, wholeNumber, checked, listed, entriesAfter, stateOf, lent, wholeAnswer}
-use Rattle.fdoca.specs.Reasons.{OfItems, OfDescriptor, OfList, OfState, OfWholeNumber, fileDescriptor, fileData, OfFile, First, None}
+use Rattle.fdoca.specs.Account.{Parts, Block, Packed}
+use Rattle.fdoca.specs.Calls.{maxData, oversize, itemList, list, itemAt, valueOf, wholeOf, wholeNumber, packed, checked, listed, entriesAfter, stateOf, lent, wholeAnswer, decimalAnswer}
+use Rattle.fdoca.specs.Packed.{packedNumber}
+use Rattle.fdoca.specs.Reasons.{OfItems, OfDescriptor, OfList, OfState, OfWholeNumber, OfPacked, fileDescriptor, fileData, OfFile, First, None}
 use Rattle.fdoca.specs.Dump.{refusedLine, textOf, secondSize, dump}
 use Rattle.fdoca.specs.Cover.{sum, positions, lengths, InItem, startOf, notesOf, noteOfParts}
 use Rattle.fdoca.proofs.Table.{there, past-end}
@@ -35,8 +37,11 @@ use Rattle.fdoca.proofs.Calls.{items-noted, list-keeps}
 use Rattle.fdoca.proofs.FirstReasons.{refused-first, accepted-none}
 use Rattle.fdoca.proofs.CheckRows.{check-told}
 use Rattle.fdoca.proofs.CallRows.{items-told, list-told, state-told, whole-told}
+use Rattle.fdoca.proofs.Fields.{item-good, digits-packed}
+use Rattle.fdoca.proofs.Packed.{packed-sound, packed-complete}
+use Rattle.fdoca.proofs.PackedRows.{packed-told}
 use Rattle.fdoca.proofs.FileRows.{fileNotes, file-text, file-told, file-listed}
-use Rattle.fdoca.proofs.Numbers.{descriptor-number, list-number, state-number, whole-number, numberOf, number-0}
+use Rattle.fdoca.proofs.Numbers.{descriptor-number, list-number, state-number, whole-number, packed-number, numberOf, number-0}
 
 -- DEMAND 1
 
@@ -79,6 +84,12 @@ module _ (d s : List ℕ) (k : ℕ) where
   pub whole-accepts : ((v : Bool × ℤ) × (wholeNumber d s k ≡ ok v)) ↔ None (OfWholeNumber d s k)
   whole-accepts = accepted-none (wholeNumber d s k) (whole-told d s k)
 
+  pub packed-refuses : (m p : ℕ) → (packed d s k ≡ refuse m p) ↔ First (OfPacked d s k) m p
+  packed-refuses m p = refused-first (packed d s k) (packed-told d s k) m p
+
+  pub packed-accepts : ((v : Bool × ℤ × ℕ) × (packed d s k ≡ ok v)) ↔ None (OfPacked d s k)
+  packed-accepts = accepted-none (packed d s k) (packed-told d s k)
+
 -- A refusal's number is never 0: an answer has the number 0 exactly where the call accepts.
 pub check-number-0 : (d : List ℕ) → (checked (check d) .number ≡ 0) ↔ None (OfDescriptor d)
 check-number-0 d = rw (same (check d)) (number-0 (check-told d) (λ t m p r. descriptor-number r .0))
@@ -105,6 +116,13 @@ pub whole-number-0 : (d s : List ℕ) (k : ℕ) → (wholeAnswer (wholeNumber d 
 whole-number-0 d s k = rw (same (wholeNumber d s k)) (number-0 (whole-told d s k) (λ t m p r. whole-number r))
   where
     same : (x : Result (Bool × ℤ)) → wholeAnswer x .number ≡ numberOf x
+    same (refuse m p) = refl
+    same (ok a) = refl
+
+pub packed-number-0 : (d s : List ℕ) (k : ℕ) → (decimalAnswer (packed d s k) .number ≡ 0) ↔ None (OfPacked d s k)
+packed-number-0 d s k = rw (same (packed d s k)) (number-0 (packed-told d s k) (λ t m p r. packed-number r))
+  where
+    same : (x : Result (Bool × ℤ × ℕ)) → decimalAnswer x .number ≡ numberOf x
     same (refuse m p) = refl
     same (ok a) = refl
 
@@ -219,16 +237,54 @@ module _ (d s : List ℕ) (n : ℕ) (accepts : check d ≡ ok n) (few : length s
   pub block-is-accepted : (old : List ℕ) → 2 + 2 * n ≤ length old → list d s old ≡ ok (itemList n (length s) (notesOf 0 (unfolded d) xs) old)
   block-is-accepted old room = rw (list-walks d s n accepts few old room, walk-complete (unfolded d) xs s b)
 
-  -- Item k has the null mark, the value and the length of its part, the type code of its field, and the whole number that the type reads from the
-  -- value; 18 stands at its start, behind the parts before it.
-  pub read-as-accounted : (k : ℕ) (f : Field) (x : Parts) → getElem? (unfolded d) k ≡ some f → getElem? xs k ≡ some x
-      → (stateOf (itemAt d s k) ≡ record { number = 0; place = 0; null = x .isNull; code = f .code; length = length (x .value) })
-      × (lent s (itemAt d s k) ≡ x .value)
-      × (wholeNumber d s k ≡ (the (wholeOf (f .type) (x .value)) 18 (startOf xs k) >>= (λ z. ok (x .isNull, if x .isNull then pos 0 else z))))
-  unfolding wholeNumber
-  read-as-accounted k f x a c =
-      let v = note-of-part 0 (unfolded d) xs s s b refl k f x a c in
-      let e : 0 + startOf xs k ≡ startOf xs k = omega arith in
-      let u : valueOf s (noteOfParts (startOf xs k) f x) ≡ x .value = rw e at (v .1) in
-      let i : itemAt d s k ≡ ok (noteOfParts (startOf xs k) f x) = rw (item-walks d s n accepts few k, walk-complete (unfolded d) xs s b, v .0, e) in
-      (rw i, rw i u, rw (i, u))
+  module _ (k : ℕ) (f : Field) (x : Parts) (a : getElem? (unfolded d) k ≡ some f) (c : getElem? xs k ≡ some x) where
+    item-is : (itemAt d s k ≡ ok (noteOfParts (startOf xs k) f x)) × (valueOf s (noteOfParts (startOf xs k) f x) ≡ x .value)
+    item-is =
+        let v = note-of-part 0 (unfolded d) xs s s b refl k f x a c in
+        let e : 0 + startOf xs k ≡ startOf xs k = omega arith in
+        (rw (item-walks d s n accepts few k, walk-complete (unfolded d) xs s b, v .0, e), rw e at (v .1))
+
+    -- Item k has the null mark, the value and the length of its part, the type code of its field, and the whole number that the type reads from the
+    -- value; 18 stands at its start, behind the parts before it.
+    pub read-as-accounted : (stateOf (itemAt d s k) ≡ record { number = 0; place = 0; null = x .isNull; code = f .code; length = length (x .value) })
+        × (lent s (itemAt d s k) ≡ x .value)
+        × (wholeNumber d s k ≡ (the (wholeOf (f .type) (x .value)) 18 (startOf xs k) >>= (λ z. ok (x .isNull, if x .isNull then pos 0 else z))))
+    unfolding wholeNumber
+    read-as-accounted = let (i, u) = item-is in (rw i, rw i u, rw (i, u))
+
+    -- A field of p digits gives its fraction digits, with 0 for a null,
+    module _ (p fraction : ℕ) (h : f .size ≡ digits p fraction) where
+      pub null-packed : x .isNull ≡ true → packed d s k ≡ ok (true, pos 0, fraction)
+      unfolding packed
+      null-packed z = let (i, _) = item-is in rw (i, h, z)
+
+      abbrev given : Option ℤ → Result (Bool × ℤ × ℕ)
+      given o = the o 20 (startOf xs k) >>= (λ z. ok (false, z, fraction))
+
+      reads : x .isNull ≡ false → packed d s k ≡ given (packedNumber p (x .value))
+      unfolding packed
+      reads z = let (i, u) = item-is in rw (i, h, z, u)
+
+      value-size : x .isNull ≡ false → length (x .value) ≡ p / 2 + 1
+      unfolding ruleOf
+      value-size z =
+          let g = item-good d s k (noteOfParts (startOf xs k) f x) (item-is .0) in
+          let l : ruleOf (f .type) .layout ≡ fixed = rw (digits-packed f (g .field-good) p fraction h) in
+          rw h at (g .filled l .1 z)
+
+      -- with z for a value exactly where its bytes are those of p digits and a sign that stand for z,
+      pub packed-as-accounted : x .isNull ≡ false → (z : ℤ) → (packed d s k ≡ ok (false, z, fraction)) ↔ Packed p (x .value) z
+      packed-as-accounted w z =
+          (λ e. packed-sound p (x .value) z (value-size w) (is-read (packedNumber p (x .value)) (sym (reads w) ∙ e)), λ y. reads w ∙ rw (packed-complete p (x .value) z y))
+        where
+          is-read : (o : Option ℤ) → given o ≡ ok (false, z, fraction) → o ≡ some z
+          is-read none e = absurd (let z : _≡_ {A = ℕ} 0 1 = cc in let w : ⊥ = omega arith in w)
+          is-read (some y) e = let q : _≡_ {A = Bool × ℤ × ℕ} (false, y, fraction) (false, z, fraction) = cc in ap (λ v. some (v .1)) q
+
+      -- and 20 at its start where they are not.
+      pub else-20 : x .isNull ≡ false → ((z : ℤ) → Packed p (x .value) z → ⊥) → packed d s k ≡ refuse 20 (startOf xs k)
+      else-20 w none-is = reads w ∙ go (packedNumber p (x .value)) refl
+        where
+          go : (o : Option ℤ) → packedNumber p (x .value) ≡ o → given o ≡ refuse 20 (startOf xs k)
+          go none e = refl
+          go (some z) e = absurd (none-is z (packed-sound p (x .value) z (value-size w) e))

@@ -1,5 +1,5 @@
--- The fields of an accepted descriptor: each has the type of its code, a field length that the type allows, and mode 0 or 1. A value of fixed length
--- is no longer than its field length.
+-- The fields of an accepted descriptor: each has the type of its code, a size that the type allows, and mode 0 or 1. A value of fixed length has
+-- the field length.
 -- Assumes nothing.
 use mathlib.Core.Path.{_≡_, refl, sym, ap, _∙_}
 use mathlib.Core.Logic.{_⊎_, inl, inr}
@@ -12,9 +12,9 @@ use lib.Dec.{leb, ltb, eqb}
 use lib.ListN.{length, drop, replicate, getD, getElem?}
 use borrow.Author.Tests.{leb-true}
 use Rattle.fdoca.specs.Basics.{if_then_else_, elem, lookup, repeat, product, ok, _>>=_, _>>_, the}
-use Rattle.fdoca.specs.FieldType.{FieldType, Layout, fixed, counted, terminated, Rule, allows, typeOf, ruleOf, nullable}
-use Rattle.fdoca.specs.Triplet.{Triplet, torn, triplet, triplets, Construct, SDA, RLO, ISD, CPT, constructOf, idOf, codeOf, parametersOf, modeOf, biasOf, lengthOf, extentsOf, Group, groupsOf}
-use Rattle.fdoca.specs.Item.{Field, Measured, refused, item, indicated, measureFixed, measureValue, measureNullable, measureItem, measure}
+use Rattle.fdoca.specs.FieldType.{FieldType, fixedBytes, variableBytes, terminatedBytes, shortBytes, integer, reversedInteger, packedDecimal, hexFloat, reversedFloat, binaryFloat, Layout, fixed, counted, terminated, bytes, digits, Rule, allows, typeOf, ruleOf, nullable}
+use Rattle.fdoca.specs.Triplet.{Triplet, torn, triplet, triplets, Construct, SDA, RLO, ISD, CPT, constructOf, idOf, codeOf, parametersOf, modeOf, biasOf, sizeIn, extentsOf, Group, groupsOf}
+use Rattle.fdoca.specs.Item.{Field, fieldLength, Measured, refused, item, indicated, measureFixed, measureValue, measureNullable, measureItem, measure}
 use Rattle.fdoca.specs.Walk.{Note, itemLength, noteOf, with, cutFrom, walk}
 use Rattle.fdoca.specs.Calls.{oversize, itemAt}
 use Rattle.fdoca.specs.Check as C
@@ -26,7 +26,7 @@ use Rattle.fdoca.proofs.Count.{closed-state, check-triplet}
 
 pub record GoodField (f : Field) : Type 0 where
   pub typed : typeOf (f .code) ≡ some (f .type)
-  pub allowed : allows (ruleOf (f .type) .lengths) (f .fieldLength) ≡ true
+  pub allowed : allows (ruleOf (f .type) .sizes) (f .size) ≡ true
   pub mode-known : f .mode ≤ 1
 
 pub data AllGood : List Field → Type 0 where
@@ -48,6 +48,29 @@ good-replicate (suc n) f g = cons g (good-replicate n f g)
 good-repeat : (n : ℕ) (l : List Field) → AllGood l → AllGood (repeat n l)
 good-repeat zero l a = nil
 good-repeat (suc n) l a = good-append a (good-repeat n l a)
+
+-- A good field has digits exactly where it is a packed decimal.
+pub digits-packed : (f : Field) → GoodField f → (p fraction : ℕ) → f .size ≡ digits p fraction → f .type ≡ packedDecimal
+unfolding ruleOf
+digits-packed f g p q e = go (f .type) (rw e at (g .allowed))
+  where
+    go : (T : FieldType) → allows (ruleOf T .sizes) (digits p q) ≡ true → T ≡ packedDecimal
+    go packedDecimal h = refl
+    go fixedBytes h = absurd (true≢false (sym h))
+    go variableBytes h = absurd (true≢false (sym h))
+    go terminatedBytes h = absurd (true≢false (sym h))
+    go shortBytes h = absurd (true≢false (sym h))
+    go integer h = absurd (true≢false (sym h))
+    go reversedInteger h = absurd (true≢false (sym h))
+    go hexFloat h = absurd (true≢false (sym h))
+    go reversedFloat h = absurd (true≢false (sym h))
+    go binaryFloat h = absurd (true≢false (sym h))
+
+pub packed-digits : (f : Field) → GoodField f → f .type ≡ packedDecimal → (F : ℕ) → f .size ≡ bytes F → ⊥
+unfolding ruleOf
+packed-digits f g t F e =
+    let h : allows (ruleOf packedDecimal .sizes) (bytes F) ≡ true = rw (t, e) at (g .allowed) in
+    true≢false (sym h)
 
 -- what an id describes has good fields only
 abbrev Good : Described → Type 0
@@ -102,19 +125,19 @@ most-one : (has : Bool) → C.most has ≤ 1
 most-one true = omega arith
 most-one false = omega arith
 
-good-parameters : (r : Rule) (ps : List ℕ) → C.goodParameters r ps ≡ true → (allows (r .lengths) (lengthOf ps) ≡ true) × (modeOf ps ≤ 1)
+good-parameters : (r : Rule) (ps : List ℕ) → C.goodParameters r ps ≡ true → (allows (r .sizes) (sizeIn (r .sizes) ps) ≡ true) × (modeOf ps ≤ 1)
 unfolding C.goodParameters
 good-parameters r ps h =
     let front : Bool = eqb (getD ps 0 0) 0 && eqb (getD ps 1 0) 0 && leb (biasOf ps) (C.most (r .hasBias)) && eqb (getD ps 4 0) 0 in
     let mode : Bool = leb (modeOf ps) (C.most (r .hasMode)) in
-    let m : leb (modeOf ps) (C.most (r .hasMode)) ≡ true = and-right front mode (and-left (front && mode) (allows (r .lengths) (lengthOf ps)) h) in
-    (and-right (front && mode) (allows (r .lengths) (lengthOf ps)) h, omega (arith, leb-true, most-one (r .hasMode)))
+    let m : leb (modeOf ps) (C.most (r .hasMode)) ≡ true = and-right front mode (and-left (front && mode) (allows (r .sizes) (sizeIn (r .sizes) ps)) h) in
+    (and-right (front && mode) (allows (r .sizes) (sizeIn (r .sizes) ps)) h, omega (arith, leb-true, most-one (r .hasMode)))
 
 not-false-is : (b : Bool) → not b ≡ false → b ≡ true
 not-false-is true h = refl
 not-false-is false h = absurd (true≢false h)
 
-good-SDA : (t : List ℕ) (T : FieldType) → typeOf (codeOf t) ≡ some T → C.goodSDA t ≡ true → GoodField (fieldOf T t)
+pub good-SDA : (t : List ℕ) (T : FieldType) → typeOf (codeOf t) ≡ some T → C.goodSDA t ≡ true → GoodField (fieldOf T t)
 good-SDA t T e h =
     let a : (not (eqb (idOf t) 0) && C.goodType (typeOf (codeOf t)) (parametersOf t)) ≡ true = and-left _ (not (elem 0 (extentsOf t))) h in
     let b : C.goodType (typeOf (codeOf t)) (parametersOf t) ≡ true = and-right (not (eqb (idOf t) 0)) _ a in
@@ -186,55 +209,56 @@ modes-known d n e before f after k = go (f .mode) (good-at before f after (rw k 
     go zero h = inl refl
     go (suc m) h = inr (omega arith)
 
--- a value of fixed length
-abbrev NoLonger : Layout → ℕ → Measured → Type 0
-NoLonger fixed F (item z p v r) = v ≤ F
-NoLonger fixed F (refused n) = Unit {0}
-NoLonger (counted k) F m = Unit {0}
-NoLonger terminated F m = Unit {0}
+-- a value of fixed length has the field length; a null has none
+abbrev Filled : Layout → ℕ → Measured → Type 0
+Filled fixed F (item z p v r) = (v ≤ F) × (z ≡ false → v ≡ F)
+Filled fixed F (refused n) = Unit {0}
+Filled (counted k) F m = Unit {0}
+Filled terminated F m = Unit {0}
 
-fixed-value : (l : Layout) (mode F : ℕ) (s : List ℕ) → NoLonger l F (measureValue l mode F s)
+fixed-value : (l : Layout) (mode F : ℕ) (s : List ℕ) → Filled l F (measureValue l mode F s)
 unfolding measureValue measureFixed
-fixed-value fixed mode F s = by-le (NoLonger fixed F) F (length s) (λ h. omega arith) (λ h. tt)
+fixed-value fixed mode F s = by-le (Filled fixed F) F (length s) (λ h. (omega arith, λ e. refl)) (λ h. tt)
 fixed-value (counted k) mode F s = tt
 fixed-value terminated mode F s = tt
 
-behind-indicator : (l : Layout) (F : ℕ) (m : Measured) → NoLonger l F m → NoLonger l F (indicated m)
+behind-indicator : (l : Layout) (F : ℕ) (m : Measured) → Filled l F m → Filled l F (indicated m)
 behind-indicator fixed F (refused n) h = tt
 behind-indicator fixed F (item z p v r) h = h
 behind-indicator (counted k) F m h = tt
 behind-indicator terminated F m h = tt
 
-fixed-nullable : (l : Layout) (mode F : ℕ) (s : List ℕ) → NoLonger l F (measureNullable l mode F s)
+fixed-nullable : (l : Layout) (mode F : ℕ) (s : List ℕ) → Filled l F (measureNullable l mode F s)
 unfolding measureNullable
 fixed-nullable fixed mode F [] = tt
 fixed-nullable fixed mode F (b ∷ s) =
-    by-le (NoLonger fixed F) 128 b (λ h. omega arith) (λ h. behind-indicator fixed F (measureValue fixed mode F s) (fixed-value fixed mode F s))
+    by-le (Filled fixed F) 128 b (λ h. (omega arith, λ e. absurd (true≢false e)))
+    (λ h. behind-indicator fixed F (measureValue fixed mode F s) (fixed-value fixed mode F s))
 fixed-nullable (counted k) mode F s = tt
 fixed-nullable terminated mode F s = tt
 
-fixed-item : (f : Field) (s : List ℕ) → NoLonger (ruleOf (f .type) .layout) (f .fieldLength) (measure f s)
+fixed-item : (f : Field) (s : List ℕ) → Filled (ruleOf (f .type) .layout) (fieldLength f) (measure f s)
 unfolding measure measureItem
 fixed-item f s =
-    by-test (NoLonger (ruleOf (f .type) .layout) (f .fieldLength)) (nullable (f .code))
-    (λ h. fixed-nullable (ruleOf (f .type) .layout) (f .mode) (f .fieldLength) s)
-    (λ h. fixed-value (ruleOf (f .type) .layout) (f .mode) (f .fieldLength) s)
+    by-test (Filled (ruleOf (f .type) .layout) (fieldLength f)) (nullable (f .code))
+    (λ h. fixed-nullable (ruleOf (f .type) .layout) (f .mode) (fieldLength f) s)
+    (λ h. fixed-value (ruleOf (f .type) .layout) (f .mode) (fieldLength f) s)
 
 -- an item as it is noted: of a good field, and with a value that its field can hold
 pub record GoodNote (n : Note) : Type 0 where
   pub field-good : GoodField (n .field)
-  pub no-longer : ruleOf (n .field .type) .layout ≡ fixed → n .value ≤ n .field .fieldLength
+  pub filled : ruleOf (n .field .type) .layout ≡ fixed → (n .value ≤ fieldLength (n .field)) × (n .isNull ≡ false → n .value ≡ fieldLength (n .field))
 
 data GoodNotes : List Note → Type 0 where
   nil : GoodNotes []
   cons : {n : Note} {ns : List Note} → GoodNote n → GoodNotes ns → GoodNotes (n ∷ ns)
 
-good-note : (f : Field) (p : ℕ) (m : Measured) → GoodField f → NoLonger (ruleOf (f .type) .layout) (f .fieldLength) m → IfOk GoodNote (noteOf f p m)
+good-note : (f : Field) (p : ℕ) (m : Measured) → GoodField f → Filled (ruleOf (f .type) .layout) (fieldLength f) m → IfOk GoodNote (noteOf f p m)
 unfolding noteOf
 good-note f p (refused n) g h = none-owed
 good-note f p (item z l v r) g h =
     let k : GoodNote (record { start = p; field = f; isNull = z; prefix = l; value = v; padding = r }) =
-    record { field-good = g; no-longer = λ e. rw e at h } in
+    record { field-good = g; filled = λ e. rw e at h } in
     holds k
 
 good-cut : (p : ℕ) (fs : List Field) (s : List ℕ) → AllGood fs → IfOk (λ c. GoodNotes (c .notes)) (cutFrom p fs s)

@@ -9,7 +9,7 @@ use mathlib.Core.List.{List, [], _∷_}
 use lib.Dec.{ltb, eqb}
 use lib.ListN.{length, take, drop, length-drop}
 use borrow.Author.Tests.{ltb-true, ltb-false, eqb-true, eqb-false, not-true, not-false}
-use Rattle.fdoca.specs.Basics.{if_then_else_, big, Result, _>>_, reject, ok}
+use Rattle.fdoca.specs.Basics.{if_then_else_, big, inBase, Result, _>>_, reject, ok}
 use Rattle.fdoca.specs.Walk.{Note, walk}
 use Rattle.fdoca.specs.Check.{maxDescriptor, check}
 use Rattle.fdoca.specs.Unfolding.{unfolded}
@@ -40,7 +40,7 @@ block-told d s = told-as to back (described-then d s (λ n. walk (unfolded d) s)
 
 -- a size of four bytes
 big-four : (a b c d : ℕ) → big (a ∷ b ∷ c ∷ d ∷ []) ≡ (a * 256 + b) * 65536 + (c * 256 + d)
-unfolding big
+unfolding big inBase
 big-four a b c d = omega arith
 
 four-at : (l : List ℕ) (i : ℕ) → i + 3 < length l → big (take 4 (drop i l)) ≡ fourBytes l i

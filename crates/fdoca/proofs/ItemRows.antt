@@ -12,9 +12,9 @@ use lib.Dec.{eqb}
 use lib.ListN.{length, take}
 use borrow.Author.Tests.{eqb-true, leb-true, eqb-false, le-leb, lt-leb, ne-eqb}
 use Rattle.fdoca.specs.Basics.{if_then_else_, lookup, big, elem}
-use Rattle.fdoca.specs.FieldType.{FieldType, fixedBytes, variableBytes, terminatedBytes, shortBytes, integer, reversedInteger, hexFloat, reversedFloat, binaryFloat, types, plain, typeOf, LengthField, signedTwo, unsignedOne, Layout, fixed, counted, terminated, ruleOf}
-use Rattle.fdoca.specs.Item.{Field, Measured, refused, item, Space, unbounded, limited, reserved, space, width, isNegative, isOver, indicated, beforeZero, measureValue, measureNullable, measureItem, measure}
-use Rattle.fdoca.specs.Account.{FixedLength, string, binary, binary-reversed, hex-float, float-reversed, float}
+use Rattle.fdoca.specs.FieldType.{FieldType, fixedBytes, variableBytes, terminatedBytes, shortBytes, integer, reversedInteger, packedDecimal, hexFloat, reversedFloat, binaryFloat, types, plain, typeOf, LengthField, signedTwo, unsignedOne, Layout, fixed, counted, terminated, ruleOf}
+use Rattle.fdoca.specs.Item.{Field, fieldLength, Measured, refused, item, Space, unbounded, limited, reserved, space, width, isNegative, isOver, indicated, beforeZero, measureValue, measureNullable, measureItem, measure}
+use Rattle.fdoca.specs.Account.{FixedLength, string, binary, binary-reversed, packed, hex-float, float-reversed, float}
 use Rattle.fdoca.specs.Reasons as R
 use Rattle.fdoca.specs.Reasons.{OneOf, here, there, HasType, Behind, no-indicator, high-bit-0, L, of-two, of-one, Sent, NoZero, ShortData, indicator, length-two, length-one, not-yet, BadCount, NoEnd, none-zero, OfItem, short-data, bad-count, no-end}
 use Rattle.fdoca.proofs.Table.{looked-up}
@@ -44,7 +44,7 @@ plain-of c n h (there (here e)) = rw (e, le-leb 128 (c + 0x80) (omega arith)) (o
 
 -- the code that a layout's types have, nullable or not
 abbrev fixedCodes : List ℕ
-fixedCodes = 0x01 ∷ 0x23 ∷ 0x24 ∷ 0x40 ∷ 0x47 ∷ 0x48 ∷ []
+fixedCodes = 0x01 ∷ 0x23 ∷ 0x24 ∷ 0x30 ∷ 0x40 ∷ 0x47 ∷ 0x48 ∷ []
 
 abbrev lengthCode : LengthField → ℕ
 lengthCode signedTwo = 0x02
@@ -92,6 +92,7 @@ module _ (f : Field) (typed : typeOf (f .code) ≡ some (f .type)) where
       ((fixedBytes, string, omega arith, refl)
       & (integer, binary, omega arith, refl)
       & (reversedInteger, binary-reversed, omega arith, refl)
+      & (packedDecimal, packed, omega arith, refl)
       & (hexFloat, hex-float, omega arith, refl)
       & (reversedFloat, float-reversed, omega arith, refl)
       & (binaryFloat, float, omega arith, refl)
@@ -122,7 +123,7 @@ none-before (b ∷ s) i h = go (eqb b 0) i refl h (λ j k. none-before s j k)
 
 module _ (f : Field) where
   abbrev F : ℕ
-  F = f .fieldLength
+  F = fieldLength f
 
   abbrev AgainstValue : List ℕ → ℕ → ℕ → Type 0
   AgainstValue v = Against F v (ruleOf (f .type) .layout) (space (f .mode) F)
@@ -181,23 +182,23 @@ module _ (f : Field) where
 
 module _ (f : Field) where
   abbrev sp : Space
-  sp = space (f .mode) (f .fieldLength)
+  sp = space (f .mode) (fieldLength f)
 
   -- the space that mode and F set aside, with what is known of them
   data Spaced : Space → Type 0 where
-    without-limit : f .fieldLength ≡ 0 → Spaced unbounded
-    at-most-F : 0 < f .fieldLength → f .mode ≡ 1 → Spaced (limited (f .fieldLength))
-    all-of-F : 0 < f .fieldLength → f .mode ≡ 0 → Spaced (reserved (f .fieldLength))
+    without-limit : fieldLength f ≡ 0 → Spaced unbounded
+    at-most-F : 0 < fieldLength f → f .mode ≡ 1 → Spaced (limited (fieldLength f))
+    all-of-F : 0 < fieldLength f → f .mode ≡ 0 → Spaced (reserved (fieldLength f))
 
   space-is : {q : Space} → Spaced q → sp ≡ q
-  space-is (without-limit e) = space-none (f .mode) (f .fieldLength) e
-  space-is (at-most-F h e) = space-limit (f .mode) (f .fieldLength) (λ z. omega arith) (λ z. omega arith)
-  space-is (all-of-F h e) = space-full (f .mode) (f .fieldLength) (λ z. omega arith) e
+  space-is (without-limit e) = space-none (f .mode) (fieldLength f) e
+  space-is (at-most-F h e) = space-limit (f .mode) (fieldLength f) (λ z. omega arith) (λ z. omega arith)
+  space-is (all-of-F h e) = space-full (f .mode) (fieldLength f) (λ z. omega arith) e
 
   spaced : f .mode ≤ 1 → Spaced sp
   unfolding space
   spaced known =
-      by-eq Spaced (f .fieldLength) 0 (λ h. without-limit h)
+      by-eq Spaced (fieldLength f) 0 (λ h. without-limit h)
       (λ h. by-eq Spaced (f .mode) 0 (λ k. all-of-F (omega arith) k) (λ k. at-most-F (omega arith) (omega arith)))
 
   sent-is : {n m : ℕ} → Sent f n m → m ≡ sent sp n
@@ -210,8 +211,8 @@ module _ (f : Field) where
   sent-of n (at-most-F h e) = Sent.value-only h e
   sent-of n (all-of-F h e) = Sent.reserved h e
 
-  above : (n : ℕ) → 0 < f .fieldLength → f .fieldLength < n → isOver sp n ≡ true
-  above n h k = over (f .mode) (f .fieldLength) n (λ z. omega arith) k
+  above : (n : ℕ) → 0 < fieldLength f → fieldLength f < n → isOver sp n ≡ true
+  above n h k = over (f .mode) (fieldLength f) n (λ z. omega arith) k
 
   length-of : (k : LengthField) (v : List ℕ) → HasType f (lengthCode k) → width k ≤ length v → L f (width k) v (big (take (width k) v))
   length-of signedTwo (a ∷ b ∷ v) t h = rw (big-two a b) (of-two t)
@@ -251,7 +252,7 @@ module _ (f : Field) (typed : typeOf (f .code) ≡ some (f .type)) where
 
   -- a row is found by a test
   seen-by : {s v : List ℕ} {l : Layout} {q : Space} {i m : ℕ} → Behind f s v → ruleOf (f .type) .layout ≡ l → sp f ≡ q
-      → Against (f .fieldLength) v l q i m → Seen f s i m
+      → Against (fieldLength f) v l q i m → Seen f s i m
   seen-by {i = i} {m = m} b e u w = found {i = i} {m = m} b (rw (e, u) w)
 
   seen-short : {i : ℕ} {s : List ℕ} → ShortData f i s → Seen f s i 13
@@ -283,7 +284,7 @@ module _ (f : Field) (typed : typeOf (f .code) ≡ some (f .type)) where
 
   seen-end : {s : List ℕ} → NoEnd f s → Seen f s 3 15
   seen-end (none-zero {v = v} b t p h z) =
-      let q : f .fieldLength + 1 ≤ beforeZero v = first-zero (f .fieldLength + 1) v z in
+      let q : fieldLength f + 1 ≤ beforeZero v = first-zero (fieldLength f + 1) v z in
       seen-by b (terminated-is f typed t) refl (endless (above f (beforeZero v) p (omega arith)))
 
   seen : {s : List ℕ} {i m : ℕ} → OfItem f s i m → Seen f s i m
@@ -300,18 +301,18 @@ module _ (f : Field) (typed : typeOf (f .code) ≡ some (f .type)) where
 
   -- a test finds a row
   row-of : {s v : List ℕ} {l : Layout} {q : Space} {i m : ℕ} → Spaced f q → Behind f s v → ruleOf (f .type) .layout ≡ l → sp f ≡ q
-      → Against (f .fieldLength) v l q i m → OfItem f s i m
+      → Against (fieldLength f) v l q i m → OfItem f s i m
   row-of d b e u (short h) = short-data (ShortData.fixed (plain (f .code)) b (has-plain f) (rw e at (code-is f typed)) h)
   row-of d b e u (short-L {k = k} h) = short-data (short-length f b k (length-code k e) h)
   row-of d b e u (negative {k = k} h t) = bad-count (negative-length f b k (length-code k e) h t)
   row-of {v = v} d b e u (over-F {k = k} h t) =
-      let o = over-of (f .mode) (f .fieldLength) (big (take (width k) v)) (rw u t) in
+      let o = over-of (f .mode) (fieldLength f) (big (take (width k) v)) (rw u t) in
       bad-count (BadCount.over-F b (length-of f k v (length-code k e) h) (omega arith) (o .1))
   row-of {v = v} d b e u (short-body {k = k} h l) =
       short-data (ShortData.counted b (length-of f k v (length-code k e) h) (sent-of f (big (take (width k) v)) d) l)
   row-of d b e u (no-zero c) = short-data (cut-off f b d (end-code e) c)
   row-of {v = v} d b e u (endless t) =
-      let o = over-of (f .mode) (f .fieldLength) (beforeZero v) (rw u t) in
+      let o = over-of (f .mode) (fieldLength f) (beforeZero v) (rw u t) in
       no-end (none-zero b (end-code e) (omega arith) (omega (arith, before-zero-within v)) (λ i h. none-before v i (omega arith)))
 
   module _ (known : f .mode ≤ 1) where

@@ -27,7 +27,9 @@ pub mod CheckRows
 pub mod ItemTests
 pub mod ItemRows
 pub mod BlockRows
+pub mod Packed
 pub mod CallRows
+pub mod PackedRows
 pub mod Stars
 pub mod FileRows
 pub mod Demands

@@ -8,7 +8,7 @@ use mathlib.Core.List.{List}
 use Rattle.fdoca.specs.Basics.{Result, refuse, ok}
 use Rattle.fdoca.specs.Item.{Field}
 use Rattle.fdoca.specs.Calls.{itemAt}
-use Rattle.fdoca.specs.Reasons.{OfItem, short-data, bad-count, no-end, OfItems, item, surplus, OfDescriptor, triplet, nothing-described, OfBlock, descriptor, items, OfList, small-list, OfState, no-such-item, OfWholeNumber, state, wrong-kind, None}
+use Rattle.fdoca.specs.Reasons.{OfItem, short-data, bad-count, no-end, OfItems, item, surplus, OfDescriptor, triplet, nothing-described, OfBlock, descriptor, items, OfList, small-list, OfState, no-such-item, OfWholeNumber, state, wrong-kind, OfPacked, bad-digit, None}
 use Rattle.fdoca.proofs.TripletRows.{number-range}
 use Rattle.fdoca.proofs.FirstReasons.{Told, refused, accepted, refused-first}
 use Rattle.fdoca.proofs.CallRows.{state-told}
@@ -43,6 +43,11 @@ state-number (no-such-item h) = omega arith
 pub whole-number : {d s t : List ℕ} {k m p : ℕ} → OfWholeNumber d s k t m p → 1 ≤ m
 whole-number (state r) = state-number r
 whole-number (wrong-kind x a b) = omega arith
+
+pub packed-number : {d s t : List ℕ} {k m p : ℕ} → OfPacked d s k t m p → 1 ≤ m
+packed-number (OfPacked.state r) = state-number r
+packed-number (OfPacked.wrong-kind x a) = omega arith
+packed-number (bad-digit x z b u w) = omega arith
 
 -- the number of a result
 abbrev pub numberOf : {A : Type 0} → Result A → ℕ

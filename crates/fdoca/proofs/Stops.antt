@@ -10,7 +10,7 @@ use lib.Dec.{ltb}
 use lib.ListN.{length, drop}
 use borrow.Author.Tests.{ltb-true, lt-ltb}
 use Rattle.fdoca.specs.Basics.{Result, refuse, ok, _>>=_, _>>_, reject}
-use Rattle.fdoca.specs.Item.{Field, Measured, refused, item, measure}
+use Rattle.fdoca.specs.Item.{Field, fieldLength, Measured, refused, item, measure}
 use Rattle.fdoca.specs.FieldType.{ruleOf, nullable}
 use Rattle.fdoca.specs.Walk.{Note, itemLength, Cut, noteOf, with, cutFrom, walk}
 use Rattle.fdoca.proofs.Outcomes.{of-item}
@@ -127,7 +127,7 @@ item-number : (f : Field) (s : List ℕ) → From13 (measure f s)
 unfolding measure
 item-number f s =
     of-item s From13 (record { short = omega arith; count = omega arith; no-end = omega arith; found = λ z p v r h. tt })
-    (nullable (f .code)) (ruleOf (f .type) .layout) (f .mode) (f .fieldLength)
+    (nullable (f .code)) (ruleOf (f .type) .layout) (f .mode) (fieldLength f)
 
 pub walk-number : (fs : List Field) (s : List ℕ) (n q : ℕ) → walk fs s ≡ refuse n q → 13 ≤ n
 walk-number fs s n q e = go (walk-stopped fs s n q e)

@@ -8,7 +8,7 @@ use mathlib.Core.List.{List, [], _∷_}
 use mathlib.Core.Option.{none, some}
 use lib.Dec.{T, eqb, eqb→eq}
 use lib.ListN.{length, getD, getElem?}
-use borrow.Author.Tests.{eqb-true}
+use borrow.Author.Tests.{eqb-true, eqb-false}
 use Rattle.fdoca.specs.Basics.{if_then_else_, lookup}
 use Rattle.fdoca.proofs.Tests.{and-left, and-right}
 
@@ -70,3 +70,34 @@ module _ {A : Type 0} (P : ℕ → A → Bool) where
           let l : a ≡ x .1 = cc in
           rw (k, l) (and-left (P (x .0) (x .1)) (every es) h)
       go false t e ih = ih e
+
+-- what holds of every entry holds of the one that is looked up; a number that is not found has none
+module _ {A : Type 0} where
+  infixr 20 _&_
+  pub data Every (Q : ℕ → A → Type 0) : List (ℕ × A) → Type 0 where
+    end : Every Q []
+    _&_ : {e : ℕ × A} {es : List (ℕ × A)} → Q (e .0) (e .1) → Every Q es → Every Q (e ∷ es)
+
+  pub found-as : (Q : ℕ → A → Type 0) (n : ℕ) (es : List (ℕ × A)) (a : A) → Every Q es → lookup n es ≡ some a → Q n a
+  found-as Q n [] a h e = absurd (let z : _≡_ {A = ℕ} 0 1 = cc in let w : ⊥ = omega arith in w)
+  found-as Q n (x ∷ es) a (q & h) e = go (eqb n (x .0)) refl e (λ k. found-as Q n es a h k)
+    where
+      go : (b : Bool) → eqb n (x .0) ≡ b → (if b then some (x .1) else lookup n es) ≡ some a → (lookup n es ≡ some a → Q n a) → Q n a
+      go true t e ih =
+          let k : n ≡ x .0 = eqb-true n (x .0) t in
+          let l : a ≡ x .1 = cc in
+          rw (k, l) q
+      go false t e ih = ih e
+
+  abbrev pub Unlisted : ℕ → List (ℕ × A) → Type 0
+  Unlisted n [] = Unit {0}
+  Unlisted n (e ∷ es) = (n ≡ e .0 → ⊥) × Unlisted n es
+
+  pub unlisted : (n : ℕ) (es : List (ℕ × A)) → lookup n es ≡ none → Unlisted n es
+  unlisted n [] e = tt
+  unlisted n (x ∷ es) e = go (eqb n (x .0)) refl e (λ k. unlisted n es k)
+    where
+      go : (b : Bool) → eqb n (x .0) ≡ b → (if b then some (x .1) else lookup n es) ≡ none → (lookup n es ≡ none → Unlisted n es)
+          → (n ≡ x .0 → ⊥) × Unlisted n es
+      go true t e ih = absurd (let z : _≡_ {A = ℕ} 0 1 = cc in let w : ⊥ = omega arith in w)
+      go false t e ih = (eqb-false n (x .0) t, ih e)

@@ -1,13 +1,13 @@
 -- The bytes of a triplet, and its parts, at their places in the descriptor.
 -- Assumes nothing.
-use mathlib.Core.Path.{_≡_, refl, sym, ap, _∙_}
+use mathlib.Core.Path.{_≡_, refl, ap, _∙_}
 use Prim.Native.Nat.{ℕ, zero, suc, _+_, _*_, _≤_, _<_}
 use mathlib.Core.List.{List, [], _∷_}
 use native.Mathlib.Omega.{arith}
 use lib.ListN.{length, take, drop, getD, length-drop, drop-of-length-le, List·getD-eq-default}
-use lib.Seq.{drop-cons, take-all, length-take-le, getD-take, getD-drop}
+use lib.Seq.{drop-cons, length-take-le, getD-take, getD-drop}
 use Rattle.fdoca.specs.Basics.{big}
-use Rattle.fdoca.specs.Triplet.{parametersOf, pairs, biasOf, modeOf, lengthOf, Group, threes, subsetOf, versionOf}
+use Rattle.fdoca.specs.Triplet.{parametersOf, pairs, biasOf, modeOf, Group, threes, subsetOf, versionOf}
 use Rattle.fdoca.specs.Reasons.{byte, twoBytes, place, LENGTH, byteOf, NotTorn, extent, reference, taken, factor}
 use Rattle.fdoca.proofs.Account.{big-two}
 
@@ -79,12 +79,6 @@ module _ (d : List ℕ) (j : ℕ) (w : NotTorn d j) where
 
     pub mode-bytes : modeOf (parametersOf (bytesOf d j)) ≡ byteOf d j 9
     mode-bytes = byte-parameters 5 (omega arith)
-
-    pub length-field-bytes : lengthOf (parametersOf (bytesOf d j)) ≡ twoBytes d (place d j + 10)
-    length-field-bytes =
-        let q : length (drop 6 (parametersOf (bytesOf d j))) ≡ 2 = omega (arith, length-parameters, length-drop 6 (parametersOf (bytesOf d j))) in
-        ap big (sym (take-all 2 (drop 6 (parametersOf (bytesOf d j))) (omega arith)))
-        ∙ big-at (parametersOf (bytesOf d j)) 6 (omega (arith, length-parameters)) ∙ pair-parameters 6 (omega arith)
 
   -- the extents from number k on
   pub extents-from : (k : ℕ) → 14 + 2 * k ≤ LENGTH d j

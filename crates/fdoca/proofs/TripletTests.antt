@@ -16,7 +16,7 @@ use Rattle.fdoca.specs.Triplet.{idOf, codeOf, parametersOf, extentsOf, s
 use Rattle.fdoca.specs.Check.{goodType, goodLengthSDA, goodSDA, goodLengthRow, goodLengthISD, goodISD}
 use Rattle.fdoca.specs.Reasons.{OneOf, here, there, LENGTH, byteOf, NotTorn, sda, rlo, isd, cpt, Is, Describes, extent, GoodParameters, Form, SDA, RLO, CPT, ISD, BadLength, BadParameter, own-id-0, parameters, extent-0, reserved, ISD-id, subset, version}
 use Rattle.fdoca.proofs.Tests.{and-left, and-right}
-use Rattle.fdoca.proofs.TripletBytes.{bytesOf, length-bytes, byte-bytes, byte-parameters, bias-bytes, mode-bytes, length-field-bytes, extents-from, extents-end, subset-bytes, version-bytes, version-left-off}
+use Rattle.fdoca.proofs.TripletBytes.{bytesOf, length-bytes, byte-bytes, byte-parameters, bias-bytes, mode-bytes, extents-from, extents-end, subset-bytes, version-bytes, version-left-off}
 use Rattle.fdoca.proofs.TypeRows.{elem-in, elem-out, good-parts, parts-good, rule-allows, table-allows, type-of-code}
 
 -- A test tells whether P holds.
@@ -140,8 +140,8 @@ module _ (d : List ℕ) (j : ℕ) (w : NotTorn d j) where
               record {
                 zeros = (sym (byte-parameters d j w SDA-long 0 (omega arith)) ∙ g .zeros .0, sym (byte-parameters d j w SDA-long 1 (omega arith)) ∙ g .zeros .1, sym (byte-parameters d j w SDA-long 4 (omega arith)) ∙ g .zeros .2);
                 allowed =
-                    rw (← bias-bytes d j w SDA-long, ← mode-bytes d j w SDA-long, ← length-field-bytes d j w SDA-long)
-                    (rule-allows (byteOf d j 3) _ _ _ T (ap typeOf (sym code-is) ∙ e) (g .bias) (g .mode) (g .length-allowed));
+                    rw (← bias-bytes d j w SDA-long, ← mode-bytes d j w SDA-long, ← byte-parameters d j w SDA-long 6 (omega arith), ← byte-parameters d j w SDA-long 7 (omega arith))
+                    (rule-allows (byteOf d j 3) _ _ _ _ T (ap typeOf (sym code-is) ∙ e) (g .bias) (g .mode) (g .size-allowed));
               }
 
       good-type : GoodParameters d j → goodType (typeOf (codeOf (bytesOf d j))) (parametersOf (bytesOf d j)) ≡ true
@@ -152,7 +152,7 @@ module _ (d : List ℕ) (j : ℕ) (w : NotTorn d j) where
             zeros = (byte-parameters d j w SDA-long 0 (omega arith) ∙ g .zeros .0, byte-parameters d j w SDA-long 1 (omega arith) ∙ g .zeros .1, byte-parameters d j w SDA-long 4 (omega arith) ∙ g .zeros .2);
             bias = rw (bias-bytes d j w SDA-long) (b .bias-is);
             mode = rw (mode-bytes d j w SDA-long) (b .mode-is);
-            length-allowed = rw (length-field-bytes d j w SDA-long) (b .length-is);
+            size-allowed = rw (byte-parameters d j w SDA-long 6 (omega arith), byte-parameters d j w SDA-long 7 (omega arith)) (b .size-is);
           }))
 
       SDA-bad : (a g x : Bool) → eqb (idOf (bytesOf d j)) 0 ≡ a → goodType (typeOf (codeOf (bytesOf d j))) (parametersOf (bytesOf d j)) ≡ g

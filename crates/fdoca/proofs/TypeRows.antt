@@ -1,4 +1,4 @@
--- What the table of rules allows is what document 01's table of field types allows: type code, bias indicator, mode and field length.
+-- What the table of rules allows is what document 01's table of field types allows: type code, bias indicator, mode and size.
 -- Assumes nothing.
 use mathlib.Core.Path.{_≡_, refl, sym, _∙_}
 use Prim.Native.Nat.{ℕ, _+_, _-_, _≤_, _<_}
@@ -10,11 +10,11 @@ use lib.Dec.{leb, ltb, eqb}
 use lib.ListN.{getD}
 use borrow.Author.Tests.{ltb-true, leb-true, le-leb, lt-leb, eqb-true, eq-eqb}
 use Rattle.fdoca.specs.Basics.{if_then_else_, elem, lookup}
-use Rattle.fdoca.specs.FieldType.{FieldType, fixedBytes, variableBytes, terminatedBytes, shortBytes, integer, reversedInteger, hexFloat, reversedFloat, binaryFloat, types, nullable, plain, typeOf, Rule, allows, ruleOf}
-use Rattle.fdoca.specs.Triplet.{biasOf, modeOf, lengthOf}
+use Rattle.fdoca.specs.FieldType.{FieldType, fixedBytes, variableBytes, terminatedBytes, shortBytes, integer, reversedInteger, packedDecimal, hexFloat, reversedFloat, binaryFloat, types, nullable, plain, typeOf, sizeOf, Rule, allows, ruleOf}
+use Rattle.fdoca.specs.Triplet.{biasOf, modeOf, sizeIn}
 use Rattle.fdoca.specs.Check.{most, goodParameters}
 use Rattle.fdoca.specs.Reasons as R
-use Rattle.fdoca.specs.Reasons.{OneOf, here, there, Allowed, fixed, variable, null-terminated, short, whole-number, reversed-whole-number, hexadecimal-float, reversed-float, float}
+use Rattle.fdoca.specs.Reasons.{OneOf, here, there, F, Allowed, fixed, variable, null-terminated, short, whole-number, reversed-whole-number, packed, hexadecimal-float, reversed-float, float}
 use Rattle.fdoca.proofs.Table.{looked-up}
 use Rattle.fdoca.proofs.Tests.{and-left, and-right}
 
@@ -46,6 +46,7 @@ plainCode terminatedBytes = 0x03
 plainCode shortBytes = 0x07
 plainCode integer = 0x23
 plainCode reversedInteger = 0x24
+plainCode packedDecimal = 0x30
 plainCode hexFloat = 0x40
 plainCode reversedFloat = 0x47
 plainCode binaryFloat = 0x48
@@ -76,6 +77,7 @@ type-of-plain terminatedBytes = refl
 type-of-plain shortBytes = refl
 type-of-plain integer = refl
 type-of-plain reversedInteger = refl
+type-of-plain packedDecimal = refl
 type-of-plain hexFloat = refl
 type-of-plain reversedFloat = refl
 type-of-plain binaryFloat = refl
@@ -92,7 +94,7 @@ pub record Good (r : Rule) (ps : List ℕ) : Type 0 where
   pub zeros : (getD ps 0 0 ≡ 0) × (getD ps 1 0 ≡ 0) × (getD ps 4 0 ≡ 0)
   pub bias : biasOf ps ≤ most (r .hasBias)
   pub mode : modeOf ps ≤ most (r .hasMode)
-  pub length-allowed : allows (r .lengths) (lengthOf ps) ≡ true
+  pub size-allowed : allows (r .sizes) (sizeIn (r .sizes) ps) ≡ true
 
 module _ (r : Rule) (ps : List ℕ) where
   pub good-parts : goodParameters r ps ≡ true → Good r ps
@@ -103,7 +105,7 @@ module _ (r : Rule) (ps : List ℕ) where
       let b = leb (biasOf ps) (most (r .hasBias)) in
       let z₄ = eqb (getD ps 4 0) 0 in
       let m = leb (modeOf ps) (most (r .hasMode)) in
-      let l = allows (r .lengths) (lengthOf ps) in
+      let l = allows (r .sizes) (sizeIn (r .sizes) ps) in
       let h₅ : (z₀ && z₁ && b && z₄ && m) ≡ true = and-left (z₀ && z₁ && b && z₄ && m) l h in
       let h₄ : (z₀ && z₁ && b && z₄) ≡ true = and-left (z₀ && z₁ && b && z₄) m h₅ in
       let h₃ : (z₀ && z₁ && b) ≡ true = and-left (z₀ && z₁ && b) z₄ h₄ in
@@ -112,7 +114,7 @@ module _ (r : Rule) (ps : List ℕ) where
         zeros = (eqb-true _ 0 (and-left z₀ z₁ h₂), eqb-true _ 0 (and-right z₀ z₁ h₂), eqb-true _ 0 (and-right (z₀ && z₁ && b) z₄ h₄));
         bias = leb-true _ _ (and-right (z₀ && z₁) b h₃);
         mode = leb-true _ _ (and-right (z₀ && z₁ && b && z₄) m h₅);
-        length-allowed = and-right (z₀ && z₁ && b && z₄ && m) l h;
+        size-allowed = and-right (z₀ && z₁ && b && z₄ && m) l h;
       }
 
   pub parts-good : Good r ps → goodParameters r ps ≡ true
@@ -124,79 +126,89 @@ module _ (r : Rule) (ps : List ℕ) where
         le-leb _ _ (g .bias),
         eq-eqb _ 0 (g .zeros .2),
         le-leb _ _ (g .mode),
-        g .length-allowed,
+        g .size-allowed,
       )
 
--- bias indicator, mode and field length of a plain type, by its rule and by 01's table
-module _ (bias mode F : ℕ) where
+-- bias indicator, mode and size of a plain type, by its rule and by 01's table
+module _ (bias mode a b : ℕ) where
   record ByRule (T : FieldType) : Type 0 where
     bias-is : bias ≤ most (ruleOf T .hasBias)
     mode-is : mode ≤ most (ruleOf T .hasMode)
-    length-is : allows (ruleOf T .lengths) F ≡ true
+    size-is : allows (ruleOf T .sizes) (sizeOf (ruleOf T .sizes) a b) ≡ true
 
   -- no mode and no bias indicator
-  bare : {c : ℕ} → bias ≤ 0 → mode ≤ 0 → Allowed c 0 0 F → Allowed c bias mode F
-  bare b m a =
+  bare : {c : ℕ} → bias ≤ 0 → mode ≤ 0 → Allowed c 0 0 a b → Allowed c bias mode a b
+  bare l m h =
       let e₁ : bias ≡ 0 = omega arith in
       let e₂ : mode ≡ 0 = omega arith in
-      rw (e₁, e₂) a
+      rw (e₁, e₂) h
 
-  no-bias : {c : ℕ} → bias ≤ 0 → Allowed c 0 mode F → Allowed c bias mode F
-  no-bias b a = let e : bias ≡ 0 = omega arith in rw e a
+  no-bias : {c : ℕ} → bias ≤ 0 → Allowed c 0 mode a b → Allowed c bias mode a b
+  no-bias l h = let e : bias ≡ 0 = omega arith in rw e h
 
-  no-mode : {c : ℕ} → mode ≤ 0 → Allowed c bias 0 F → Allowed c bias mode F
-  no-mode m a = let e : mode ≡ 0 = omega arith in rw e a
+  no-mode : {c : ℕ} → mode ≤ 0 → Allowed c bias 0 a b → Allowed c bias mode a b
+  no-mode m h = let e : mode ≡ 0 = omega arith in rw e h
 
-  allowed : (T : FieldType) → ByRule T → Allowed (plainCode T) bias mode F
+  of-digits : (leb 1 a && leb a 18 && leb b a) ≡ true → Allowed 0x30 0 0 a b
+  of-digits h =
+      let k : (leb 1 a && leb a 18) ≡ true = and-left (leb 1 a && leb a 18) (leb b a) h in
+      packed (leb-true 1 a (and-left (leb 1 a) (leb a 18) k)) (leb-true a 18 (and-right (leb 1 a) (leb a 18) k))
+      (leb-true b a (and-right (leb 1 a && leb a 18) (leb b a) h))
+
+  allowed : (T : FieldType) → ByRule T → Allowed (plainCode T) bias mode a b
   unfolding ruleOf
-  allowed fixedBytes h = bare (h .bias-is) (h .mode-is) (fixed (leb-true F 32767 (h .length-is)))
-  allowed variableBytes h = no-bias (h .bias-is) (variable (leb-true F 32767 (h .length-is)) (h .mode-is))
-  allowed terminatedBytes h = no-bias (h .bias-is) (null-terminated (leb-true F 32767 (h .length-is)) (h .mode-is))
-  allowed shortBytes h = no-bias (h .bias-is) (short (leb-true F 255 (h .length-is)) (h .mode-is))
-  allowed integer h = bare (h .bias-is) (h .mode-is) (whole-number (elem-in F (2 ∷ 4 ∷ 8 ∷ []) (h .length-is)))
-  allowed reversedInteger h = bare (h .bias-is) (h .mode-is) (reversed-whole-number (elem-in F (2 ∷ 4 ∷ 8 ∷ []) (h .length-is)))
-  allowed hexFloat h = bare (h .bias-is) (h .mode-is) (hexadecimal-float (elem-in F (4 ∷ 8 ∷ 16 ∷ []) (h .length-is)))
-  allowed reversedFloat h = no-mode (h .mode-is) (reversed-float (elem-in F (4 ∷ 8 ∷ []) (h .length-is)) (h .bias-is))
-  allowed binaryFloat h = no-mode (h .mode-is) (float (elem-in F (4 ∷ 8 ∷ []) (h .length-is)) (h .bias-is))
+  allowed fixedBytes h = bare (h .bias-is) (h .mode-is) (fixed (leb-true (F a b) 32767 (h .size-is)))
+  allowed variableBytes h = no-bias (h .bias-is) (variable (leb-true (F a b) 32767 (h .size-is)) (h .mode-is))
+  allowed terminatedBytes h = no-bias (h .bias-is) (null-terminated (leb-true (F a b) 32767 (h .size-is)) (h .mode-is))
+  allowed shortBytes h = no-bias (h .bias-is) (short (leb-true (F a b) 255 (h .size-is)) (h .mode-is))
+  allowed integer h = bare (h .bias-is) (h .mode-is) (whole-number (elem-in (F a b) (2 ∷ 4 ∷ 8 ∷ []) (h .size-is)))
+  allowed reversedInteger h = bare (h .bias-is) (h .mode-is) (reversed-whole-number (elem-in (F a b) (2 ∷ 4 ∷ 8 ∷ []) (h .size-is)))
+  allowed packedDecimal h = bare (h .bias-is) (h .mode-is) (of-digits (h .size-is))
+  allowed hexFloat h = bare (h .bias-is) (h .mode-is) (hexadecimal-float (elem-in (F a b) (4 ∷ 8 ∷ 16 ∷ []) (h .size-is)))
+  allowed reversedFloat h = no-mode (h .mode-is) (reversed-float (elem-in (F a b) (4 ∷ 8 ∷ []) (h .size-is)) (h .bias-is))
+  allowed binaryFloat h = no-mode (h .mode-is) (float (elem-in (F a b) (4 ∷ 8 ∷ []) (h .size-is)) (h .bias-is))
 
 -- The rule of a code's type allows what the table does,
-pub rule-allows : (c bias mode F : ℕ) (T : FieldType) → typeOf c ≡ some T → bias ≤ most (ruleOf T .hasBias) → mode ≤ most (ruleOf T .hasMode)
-    → allows (ruleOf T .lengths) F ≡ true → Allowed c bias mode F
-rule-allows c bias mode F T e b m l = go (code-of-type c T e)
+pub rule-allows : (c bias mode a b : ℕ) (T : FieldType) → typeOf c ≡ some T → bias ≤ most (ruleOf T .hasBias) → mode ≤ most (ruleOf T .hasMode)
+    → allows (ruleOf T .sizes) (sizeOf (ruleOf T .sizes) a b) ≡ true → Allowed c bias mode a b
+rule-allows c bias mode a b T e l m z = go (code-of-type c T e)
   where
-    h : Allowed (plainCode T) bias mode F
-    h = allowed bias mode F T (record { bias-is = b; mode-is = m; length-is = l })
+    h : Allowed (plainCode T) bias mode a b
+    h = allowed bias mode a b T (record { bias-is = l; mode-is = m; size-is = z })
 
-    go : Coded T c → Allowed c bias mode F
+    go : Coded T c → Allowed c bias mode a b
     go (as-plain q k) = rw q h
     go (as-nullable q k r) = rw (r, q) (R.nullable (rw q at k) h)
 
 -- and the table what the rule does.
-pub record ByTable (c bias mode F : ℕ) : Type 0 where
+pub record ByTable (c bias mode a b : ℕ) : Type 0 where
   pub type : FieldType
   pub typed : Coded type c
   pub bias-is : bias ≤ most (ruleOf type .hasBias)
   pub mode-is : mode ≤ most (ruleOf type .hasMode)
-  pub length-is : allows (ruleOf type .lengths) F ≡ true
+  pub size-is : allows (ruleOf type .sizes) (sizeOf (ruleOf type .sizes) a b) ≡ true
 
-made : {c bias mode F : ℕ} (T : FieldType) → c ≡ plainCode T → c < 128 → bias ≤ most (ruleOf T .hasBias) → mode ≤ most (ruleOf T .hasMode)
-    → allows (ruleOf T .lengths) F ≡ true → ByTable c bias mode F
-made T e k b m l = record { type = T; typed = as-plain e k; bias-is = b; mode-is = m; length-is = l }
+made : {c bias mode a b : ℕ} (T : FieldType) → c ≡ plainCode T → c < 128 → bias ≤ most (ruleOf T .hasBias) → mode ≤ most (ruleOf T .hasMode)
+    → allows (ruleOf T .sizes) (sizeOf (ruleOf T .sizes) a b) ≡ true → ByTable c bias mode a b
+made T e k l m z = record { type = T; typed = as-plain e k; bias-is = l; mode-is = m; size-is = z }
 
-pub table-allows : {c bias mode F : ℕ} → Allowed c bias mode F → ByTable c bias mode F
+pub table-allows : {c bias mode a b : ℕ} → Allowed c bias mode a b → ByTable c bias mode a b
 unfolding ruleOf
-table-allows (fixed {F = F} h) = made fixedBytes refl (omega arith) (omega arith) (omega arith) (le-leb F 32767 h)
-table-allows (variable {F = F} h m) = made variableBytes refl (omega arith) (omega arith) m (le-leb F 32767 h)
-table-allows (null-terminated {F = F} h m) = made terminatedBytes refl (omega arith) (omega arith) m (le-leb F 32767 h)
-table-allows (short {F = F} h m) = made shortBytes refl (omega arith) (omega arith) m (le-leb F 255 h)
+table-allows (fixed {a = a} {b = b} h) = made fixedBytes refl (omega arith) (omega arith) (omega arith) (le-leb (F a b) 32767 h)
+table-allows (variable {a = a} {b = b} h m) = made variableBytes refl (omega arith) (omega arith) m (le-leb (F a b) 32767 h)
+table-allows (null-terminated {a = a} {b = b} h m) = made terminatedBytes refl (omega arith) (omega arith) m (le-leb (F a b) 32767 h)
+table-allows (short {a = a} {b = b} h m) = made shortBytes refl (omega arith) (omega arith) m (le-leb (F a b) 255 h)
 table-allows (whole-number h) = made integer refl (omega arith) (omega arith) (omega arith) (in-elem h)
 table-allows (reversed-whole-number h) = made reversedInteger refl (omega arith) (omega arith) (omega arith) (in-elem h)
+table-allows (packed {p = p} {q = q} l h k) =
+    let z : (leb 1 p && leb p 18 && leb q p) ≡ true = rw (le-leb 1 p l, le-leb p 18 h, le-leb q p k) in
+    made packedDecimal refl (omega arith) (omega arith) (omega arith) z
 table-allows (hexadecimal-float h) = made hexFloat refl (omega arith) (omega arith) (omega arith) (in-elem h)
-table-allows (reversed-float h b) = made reversedFloat refl (omega arith) b (omega arith) (in-elem h)
-table-allows (float h b) = made binaryFloat refl (omega arith) b (omega arith) (in-elem h)
+table-allows (reversed-float h l) = made reversedFloat refl (omega arith) l (omega arith) (in-elem h)
+table-allows (float h l) = made binaryFloat refl (omega arith) l (omega arith) (in-elem h)
 table-allows (R.nullable {code = c} k h) =
     let t = table-allows h in
-    record { type = t .type; typed = go (t .typed); bias-is = t .bias-is; mode-is = t .mode-is; length-is = t .length-is }
+    record { type = t .type; typed = go (t .typed); bias-is = t .bias-is; mode-is = t .mode-is; size-is = t .size-is }
   where
     go : {T : FieldType} → Coded T c → Coded T (c + 0x80)
     go (as-plain e l) = as-nullable e l refl

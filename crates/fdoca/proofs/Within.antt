@@ -5,7 +5,7 @@ use mathlib.Core.Bool.{Bool}
 use mathlib.Core.List.{List}
 use lib.ListN.{length}
 use Rattle.fdoca.specs.FieldType.{Layout, ruleOf, nullable}
-use Rattle.fdoca.specs.Item.{Field, Measured, refused, item, measureValue, measureItem, measure}
+use Rattle.fdoca.specs.Item.{Field, fieldLength, Measured, refused, item, measureValue, measureItem, measure}
 use Rattle.fdoca.proofs.Outcomes.{Holds, of-value, of-item}
 
 abbrev pub Within : ℕ → Measured → Type 0
@@ -23,4 +23,4 @@ within-item isNullable l mode F s = of-item s (Within (length s)) (held (length 
 
 pub within : (f : Field) (s : List ℕ) → Within (length s) (measure f s)
 unfolding measure
-within f s = within-item (nullable (f .code)) (ruleOf (f .type) .layout) (f .mode) (f .fieldLength) s
+within f s = within-item (nullable (f .code)) (ruleOf (f .type) .layout) (f .mode) (fieldLength f) s

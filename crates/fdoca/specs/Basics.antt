@@ -17,10 +17,14 @@ abbrev pub elem : ℕ → List ℕ → Bool
 elem x [] = false
 elem x (y ∷ ys) = if eqb x y then true else elem x ys
 
+-- The number of a run of digits, most significant first.
+unfoldable pub inBase : (base : ℕ) → List ℕ → ℕ
+inBase base [] = 0
+inBase base (d ∷ ds) = d * base ^ length ds + inBase base ds
+
 -- The unsigned number of a run of bytes, most significant first.
 unfoldable pub big : List ℕ → ℕ
-big [] = 0
-big (b ∷ bs) = b * 256 ^ length bs + big bs
+big bs = inBase 256 bs
 
 abbrev pub product : List ℕ → ℕ
 product [] = 1

@@ -1,4 +1,4 @@
--- What the calls give (document 01, "What the reader carries", "Numbers a caller can meet", "The item list and the dump program").
+-- What the calls give (document 01, "What the reader carries", "Numbers a caller can meet", "The item list and the dump program"; document 02, Q-1).
 use Prim.Native.Nat.{ℕ, _+_, _*_, _^_}
 use mathlib.Core.Bool.{Bool, false, _||_}
 use mathlib.Core.List.{List, [], _∷_, _++_, map, reverse}
@@ -10,11 +10,13 @@ use Rattle.fdoca.specs.declared.Checked.{Checked}
 use Rattle.fdoca.specs.declared.Listed.{Listed}
 use Rattle.fdoca.specs.declared.State.{State}
 use Rattle.fdoca.specs.declared.Whole.{Whole}
+use Rattle.fdoca.specs.declared.Decimal.{Decimal}
 use Rattle.fdoca.specs.Basics.{if_then_else_, big, Result, refuse, ok, _>>=_, _>>_, reject, the}
-use Rattle.fdoca.specs.FieldType.{FieldType, fixedBytes, variableBytes, terminatedBytes, shortBytes, integer, reversedInteger, hexFloat, reversedFloat, binaryFloat}
+use Rattle.fdoca.specs.FieldType.{FieldType, fixedBytes, variableBytes, terminatedBytes, shortBytes, integer, reversedInteger, packedDecimal, hexFloat, reversedFloat, binaryFloat, Size, bytes, digits}
 use Rattle.fdoca.specs.Walk.{Note, walk}
 use Rattle.fdoca.specs.Check.{check, maxDescriptor}
 use Rattle.fdoca.specs.Unfolding.{unfolded}
+use Rattle.fdoca.specs.Packed.{packedNumber}
 
 abbrev pub maxData : ℕ
 maxData = 32768
@@ -60,6 +62,7 @@ wholeOf fixedBytes bs = none
 wholeOf variableBytes bs = none
 wholeOf terminatedBytes bs = none
 wholeOf shortBytes bs = none
+wholeOf packedDecimal bs = none
 wholeOf hexFloat bs = none
 wholeOf reversedFloat bs = none
 wholeOf binaryFloat bs = none
@@ -70,6 +73,20 @@ wholeNumber d s k = do
   i ← itemAt d s k
   z ← the (wholeOf (i .field .type) (valueOf s i)) 18 (i .start)
   ok (i .isNull, if i .isNull then pos 0 else z)
+
+-- The digits and the fraction digits of a field's size; packed decimals alone have them.
+abbrev pub digitsOf : Size → Option (ℕ × ℕ)
+digitsOf (bytes F) = none
+digitsOf (digits p fraction) = some (p, fraction)
+
+-- The whole number of a packed item (Q-1), with its field's fraction digits: 18 goes by the type, of a null too; then 20, Bad digit, which a
+-- null has not.
+unfoldable pub packed : List ℕ → List ℕ → (k : ℕ) → Result (Bool × ℤ × ℕ)
+packed d s k = do
+  i ← itemAt d s k
+  p ← the (digitsOf (i .field .size)) 18 (i .start)
+  z ← the (if i .isNull then some (pos 0) else packedNumber (p .0) (valueOf s i)) 20 (i .start)
+  ok (i .isNull, z, p .1)
 
 -- The answers: an accepted call gives number 0 and place 0, a refusal zeros and no null mark.
 abbrev pub checked : Result ℕ → Checked
@@ -97,3 +114,7 @@ lent s (ok i) = valueOf s i
 abbrev pub wholeAnswer : Result (Bool × ℤ) → Whole
 wholeAnswer (refuse n p) = record { number = n; place = p; null = false; value = pos 0 }
 wholeAnswer (ok v) = record { number = 0; place = 0; null = v .0; value = v .1 }
+
+abbrev pub decimalAnswer : Result (Bool × ℤ × ℕ) → Decimal
+decimalAnswer (refuse n p) = record { number = n; place = p; null = false; value = pos 0; fraction = 0 }
+decimalAnswer (ok v) = record { number = 0; place = 0; null = v .0; value = v .1; fraction = v .2 }

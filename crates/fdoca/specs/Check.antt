@@ -7,7 +7,7 @@ use lib.Dec.{leb, ltb, eqb}
 use lib.ListN.{length, getD}
 use Rattle.fdoca.specs.Basics.{if_then_else_, elem, lookup, isSome, product, Result, refuse, ok, _>>=_, _>>_, reject, the}
 use Rattle.fdoca.specs.FieldType.{FieldType, Rule, allows, typeOf, ruleOf}
-use Rattle.fdoca.specs.Triplet.{Triplet, torn, triplet, triplets, Construct, SDA, RLO, ISD, CPT, constructOf, idOf, codeOf, parametersOf, modeOf, lengthOf, biasOf, extentsOf, Group, groupsOf, subsetOf, versionOf}
+use Rattle.fdoca.specs.Triplet.{Triplet, torn, triplet, triplets, Construct, SDA, RLO, ISD, CPT, constructOf, idOf, codeOf, parametersOf, modeOf, sizeIn, biasOf, extentsOf, Group, groupsOf, subsetOf, versionOf}
 
 abbrev pub maxDescriptor : ℕ
 maxDescriptor = 4096
@@ -74,7 +74,7 @@ goodParameters r ps =
     && leb (biasOf ps) (most (r .hasBias))
     && eqb (getD ps 4 0) 0
     && leb (modeOf ps) (most (r .hasMode))
-    && allows (r .lengths) (lengthOf ps)
+    && allows (r .sizes) (sizeIn (r .sizes) ps)
 
 abbrev pub goodType : Option FieldType → List ℕ → Bool
 goodType none ps = false

@@ -1,6 +1,6 @@
--- The field types (document 01, "Field types"; 000, section 4.3.3) and the rule of each.
-use Prim.Native.Nat.{ℕ, _-_}
-use mathlib.Core.Bool.{Bool, true, false}
+-- The field types (document 01, "Field types"; document 02, Q-1; 000, section 4.3.3) and the rule of each.
+use Prim.Native.Nat.{ℕ, _+_, _-_, _*_, _/_}
+use mathlib.Core.Bool.{Bool, true, false, _&&_}
 use mathlib.Core.List.{List, [], _∷_}
 use mathlib.Core.Option.{Option}
 use lib.Dec.{leb}
@@ -9,7 +9,7 @@ use Rattle.fdoca.specs.Basics.{if_then_else_, elem, lookup}
 -- The types that are carried.
 pub data FieldType : Type 0 where
   fixedBytes variableBytes terminatedBytes shortBytes : FieldType
-  integer reversedInteger : FieldType
+  integer reversedInteger packedDecimal : FieldType
   hexFloat reversedFloat binaryFloat : FieldType
 
 -- Their plain type codes.
@@ -21,6 +21,7 @@ types =
     ∷ (0x07, shortBytes)
     ∷ (0x23, integer)
     ∷ (0x24, reversedInteger)
+    ∷ (0x30, packedDecimal)
     ∷ (0x40, hexFloat)
     ∷ (0x47, reversedFloat)
     ∷ (0x48, binaryFloat)
@@ -41,30 +42,53 @@ typeOf code = lookup (plain code) types
 pub data LengthField : Type 0 where
   signedTwo unsignedOne : LengthField
 
--- Where a value ends: after F bytes, after as many as its length field says, or before a zero byte.
+-- Where a value ends: after all bytes of its size, after as many as its length field says, or before a zero byte.
 pub data Layout : Type 0 where
   fixed : Layout
   counted : LengthField → Layout
   terminated : Layout
 
--- The field lengths that a type allows.
-pub data Lengths : Type 0 where
-  upTo : ℕ → Lengths
-  oneOf : List ℕ → Lengths
+-- How large a field is: a field length F in bytes; or, of a packed decimal, its digits, and how many of them are fraction digits (Q-1).
+pub data Size : Type 0 where
+  bytes : (F : ℕ) → Size
+  digits : (p fraction : ℕ) → Size
 
-abbrev pub allows : Lengths → ℕ → Bool
-allows (upTo n) F = leb F n
-allows (oneOf ns) F = elem F ns
+-- In bytes: p digits take p / 2 + 1, p / 2 rounded down (Q-1).
+abbrev pub inBytes : Size → ℕ
+inBytes (bytes F) = F
+inBytes (digits p fraction) = p / 2 + 1
+
+-- The sizes that a type allows: field lengths, or so many digits.
+pub data Sizes : Type 0 where
+  upTo : ℕ → Sizes
+  oneOf : List ℕ → Sizes
+  digitsUpTo : ℕ → Sizes
+
+-- What bytes 6 and 7 of the type parameters mean by the sizes of their type: F, most significant byte first; or the digits, then the fraction
+-- digits.
+abbrev pub sizeOf : Sizes → (byte6 byte7 : ℕ) → Size
+sizeOf (upTo n) byte6 byte7 = bytes (byte6 * 256 + byte7)
+sizeOf (oneOf ns) byte6 byte7 = bytes (byte6 * 256 + byte7)
+sizeOf (digitsUpTo n) byte6 byte7 = digits byte6 byte7
+
+-- One digit at the least, and at most as many fraction digits as digits.
+abbrev pub allows : Sizes → Size → Bool
+allows (upTo n) (bytes F) = leb F n
+allows (oneOf ns) (bytes F) = elem F ns
+allows (digitsUpTo n) (digits p fraction) = leb 1 p && leb p n && leb fraction p
+allows (upTo n) (digits p fraction) = false
+allows (oneOf ns) (digits p fraction) = false
+allows (digitsUpTo n) (bytes F) = false
 
 -- A row of the table of rules.
 pub record Rule : Type 0 where
   pub layout : Layout
-  pub lengths : Lengths
+  pub sizes : Sizes
   pub hasMode : Bool
   pub hasBias : Bool
 
-abbrev pub rule : Layout → Lengths → Bool → Bool → Rule
-rule l n m b = record { layout = l; lengths = n; hasMode = m; hasBias = b }
+abbrev pub rule : Layout → Sizes → Bool → Bool → Rule
+rule l n m b = record { layout = l; sizes = n; hasMode = m; hasBias = b }
 
 unfoldable pub ruleOf : FieldType → Rule
 ruleOf fixedBytes = rule fixed (upTo 32767) false false
@@ -73,6 +97,7 @@ ruleOf terminatedBytes = rule terminated (upTo 32767) true false
 ruleOf shortBytes = rule (counted unsignedOne) (upTo 255) true false
 ruleOf integer = rule fixed (oneOf (2 ∷ 4 ∷ 8 ∷ [])) false false
 ruleOf reversedInteger = rule fixed (oneOf (2 ∷ 4 ∷ 8 ∷ [])) false false
+ruleOf packedDecimal = rule fixed (digitsUpTo 18) false false
 ruleOf hexFloat = rule fixed (oneOf (4 ∷ 8 ∷ 16 ∷ [])) false false
 ruleOf reversedFloat = rule fixed (oneOf (4 ∷ 8 ∷ [])) false true
 ruleOf binaryFloat = rule fixed (oneOf (4 ∷ 8 ∷ [])) false true

@@ -5,7 +5,7 @@ use mathlib.Core.List.{List, [], _∷_}
 use lib.Dec.{leb, ltb, eqb}
 use lib.ListN.{length, take}
 use Rattle.fdoca.specs.Basics.{if_then_else_, big}
-use Rattle.fdoca.specs.FieldType.{FieldType, LengthField, signedTwo, unsignedOne, Layout, fixed, counted, terminated, ruleOf, nullable}
+use Rattle.fdoca.specs.FieldType.{FieldType, LengthField, signedTwo, unsignedOne, Layout, fixed, counted, terminated, Size, inBytes, ruleOf, nullable}
 
 -- A field ("Unfolding and walk"): an SDA's id, its type code with the type that it stands for, and the parameters that hold for it.
 pub record Field : Type 0 where
@@ -13,7 +13,11 @@ pub record Field : Type 0 where
   pub code : ℕ
   pub type : FieldType
   pub mode : ℕ
-  pub fieldLength : ℕ
+  pub size : Size
+
+-- The field's length in bytes: the F by which its items are measured.
+abbrev pub fieldLength : Field → ℕ
+fieldLength f = inBytes (f .size)
 
 -- What measuring an item finds: a refusal's number (13, 14, 15), or the null mark and three lengths, which add up to the item's: what
 -- precedes the value (null indicator and length field), the value, and what follows it (terminator and reserved space).
@@ -108,4 +112,4 @@ measureItem isNullable l mode F s = if isNullable then measureNullable l mode F 
 
 -- The item at the beginning of the bytes s, by the rule of its field's type.
 unfoldable pub measure : Field → List ℕ → Measured
-measure f s = measureItem (nullable (f .code)) (ruleOf (f .type) .layout) (f .mode) (f .fieldLength) s
+measure f s = measureItem (nullable (f .code)) (ruleOf (f .type) .layout) (f .mode) (fieldLength f) s

@@ -5,6 +5,7 @@ pub mod Walk
 pub mod Triplet
 pub mod Check
 pub mod Unfolding
+pub mod Packed
 pub mod Calls
 pub mod Dump
 pub mod Account

@@ -1,14 +1,17 @@
--- Document 01's table "Numbers a caller can meet", row by row: for each number its column "When", said of a triplet, a group, an item or a call by
--- itself, with its place and without regard to the other rows; then 01's order. Bytes are read at their places. The unfolding and the standard's account
--- of an item are taken from their own files; nothing is taken from the check, from measuring, or from the calls.
+-- Document 01's table "Numbers a caller can meet", and 20 by document 02, row by row: for each number its column "When", said of a triplet, a group, an
+-- item or a call by itself, with its place and without regard to the other rows; then 01's order. Bytes are read at their places. The unfolding and the
+-- standard's account of an item are taken from their own files; nothing is taken from the check, from measuring, or from the calls.
 use mathlib.Core.Path.{_≡_}
 use mathlib.Core.Logic.{_≢_, _⊎_}
 use Prim.Native.Nat.{ℕ, zero, suc, _+_, _*_, _≤_, _<_}
+use mathlib.Core.Bool.{false}
 use mathlib.Core.List.{List, [], _∷_, _++_}
 use lib.ListN.{length, take, drop, getD}
-use Rattle.fdoca.specs.Item.{Field}
-use Rattle.fdoca.specs.Account.{Parts, Block}
+use Rattle.fdoca.specs.FieldType.{digits}
+use Rattle.fdoca.specs.Item.{Field, fieldLength}
+use Rattle.fdoca.specs.Account.{Parts, Begins, Block, Unused}
 use Rattle.fdoca.specs.Unfolding.{unfolded}
+use Rattle.fdoca.specs.Packed.{halfBytes}
 
 abbrev pub byte : List ℕ → (place : ℕ) → ℕ
 byte s p = getD s p 0
@@ -120,23 +123,28 @@ mutual
     group : {r j k n m : ℕ} → UpTo d r j k n → HasGroup d j k → Adds d r j k m → UpTo d r j (suc k) (n + m)
     continued : {r j k n : ℕ} → UpTo d r j k n → LENGTH d j ≡ 3 + 3 * k → Is d cpt (suc j) → UpTo d r (suc j) 0 n
 
--- FIELD TYPES (01's table): type code, bias indicator, mode, F. A type plus X'80' is its nullable form.
-pub data Allowed : (code bias mode F : ℕ) → Type 0 where
-  fixed : {F : ℕ} → F ≤ 32767 → Allowed 0x01 0 0 F
-  variable : {mode F : ℕ} → F ≤ 32767 → mode ≤ 1 → Allowed 0x02 0 mode F
-  null-terminated : {mode F : ℕ} → F ≤ 32767 → mode ≤ 1 → Allowed 0x03 0 mode F
-  short : {mode F : ℕ} → F ≤ 255 → mode ≤ 1 → Allowed 0x07 0 mode F
-  whole-number : {F : ℕ} → OneOf F (2 ∷ 4 ∷ 8 ∷ []) → Allowed 0x23 0 0 F
-  reversed-whole-number : {F : ℕ} → OneOf F (2 ∷ 4 ∷ 8 ∷ []) → Allowed 0x24 0 0 F
-  hexadecimal-float : {F : ℕ} → OneOf F (4 ∷ 8 ∷ 16 ∷ []) → Allowed 0x40 0 0 F
-  reversed-float : {bias F : ℕ} → OneOf F (4 ∷ 8 ∷ []) → bias ≤ 1 → Allowed 0x47 bias 0 F
-  float : {bias F : ℕ} → OneOf F (4 ∷ 8 ∷ []) → bias ≤ 1 → Allowed 0x48 bias 0 F
-  nullable : {code bias mode F : ℕ} → code < 0x80 → Allowed code bias mode F → Allowed (code + 0x80) bias mode F
+-- FIELD TYPES (01's table, and X'30' by Q-1): type code, bias indicator, mode, and the last two bytes of the parameters, which are F or, of X'30',
+-- digits and fraction digits. A type plus X'80' is its nullable form.
+abbrev pub F : (a b : ℕ) → ℕ
+F a b = a * 256 + b
 
--- An SDA's type and parameters: field type in byte 3, then eight bytes, of which 2 and 3 are the bias indicator, 5 the mode, 6 and 7 the field length F.
+pub data Allowed : (code bias mode a b : ℕ) → Type 0 where
+  fixed : {a b : ℕ} → F a b ≤ 32767 → Allowed 0x01 0 0 a b
+  variable : {mode a b : ℕ} → F a b ≤ 32767 → mode ≤ 1 → Allowed 0x02 0 mode a b
+  null-terminated : {mode a b : ℕ} → F a b ≤ 32767 → mode ≤ 1 → Allowed 0x03 0 mode a b
+  short : {mode a b : ℕ} → F a b ≤ 255 → mode ≤ 1 → Allowed 0x07 0 mode a b
+  whole-number : {a b : ℕ} → OneOf (F a b) (2 ∷ 4 ∷ 8 ∷ []) → Allowed 0x23 0 0 a b
+  reversed-whole-number : {a b : ℕ} → OneOf (F a b) (2 ∷ 4 ∷ 8 ∷ []) → Allowed 0x24 0 0 a b
+  packed : {p q : ℕ} → 1 ≤ p → p ≤ 18 → q ≤ p → Allowed 0x30 0 0 p q
+  hexadecimal-float : {a b : ℕ} → OneOf (F a b) (4 ∷ 8 ∷ 16 ∷ []) → Allowed 0x40 0 0 a b
+  reversed-float : {bias a b : ℕ} → OneOf (F a b) (4 ∷ 8 ∷ []) → bias ≤ 1 → Allowed 0x47 bias 0 a b
+  float : {bias a b : ℕ} → OneOf (F a b) (4 ∷ 8 ∷ []) → bias ≤ 1 → Allowed 0x48 bias 0 a b
+  nullable : {code bias mode a b : ℕ} → code < 0x80 → Allowed code bias mode a b → Allowed (code + 0x80) bias mode a b
+
+-- An SDA's type and parameters: field type in byte 3, then eight bytes, of which 2 and 3 are the bias indicator, 5 the mode, 6 and 7 the size.
 pub record GoodParameters (d : List ℕ) (j : ℕ) : Type 0 where
   pub zeros : (byteOf d j 4 ≡ 0) × (byteOf d j 5 ≡ 0) × (byteOf d j 8 ≡ 0)
-  pub allowed : Allowed (byteOf d j 3) (twoBytes d (place d j + 6)) (byteOf d j 9) (twoBytes d (place d j + 10))
+  pub allowed : Allowed (byteOf d j 3) (twoBytes d (place d j + 6)) (byteOf d j 9) (byteOf d j 10) (byteOf d j 11)
 
 -- THE ROWS that speak of triplet j.
 
@@ -229,9 +237,9 @@ pub data L (f : Field) : (w : ℕ) → List ℕ → (n : ℕ) → Type 0 where
 
 -- So many bytes follow an L of n.
 pub data Sent (f : Field) (n : ℕ) : ℕ → Type 0 where
-  no-limit : f .fieldLength ≡ 0 → Sent f n n
-  value-only : 0 < f .fieldLength → f .mode ≡ 1 → Sent f n n
-  reserved : 0 < f .fieldLength → f .mode ≡ 0 → Sent f n (f .fieldLength)
+  no-limit : fieldLength f ≡ 0 → Sent f n n
+  value-only : 0 < fieldLength f → f .mode ≡ 1 → Sent f n n
+  reserved : 0 < fieldLength f → f .mode ≡ 0 → Sent f n (fieldLength f)
 
 -- No byte among the first n is zero.
 abbrev pub NoZero : (n : ℕ) → List ℕ → Type 0
@@ -243,21 +251,21 @@ pub data ShortData (f : Field) : (step : ℕ) → List ℕ → Type 0 where
   length-two : {s v : List ℕ} → Behind f s v → HasType f 0x02 → length v < 2 → ShortData f 1 s
   length-one : {s v : List ℕ} → Behind f s v → HasType f 0x07 → length v < 1 → ShortData f 1 s
   counted : {s v : List ℕ} {w n m : ℕ} → Behind f s v → L f w v n → Sent f n m → length v < w + m → ShortData f 3 s
-  fixed : {s v : List ℕ} (c : ℕ) → Behind f s v → HasType f c → OneOf c (0x01 ∷ 0x23 ∷ 0x24 ∷ 0x40 ∷ 0x47 ∷ 0x48 ∷ []) → length v < f .fieldLength
+  fixed : {s v : List ℕ} (c : ℕ) → Behind f s v → HasType f c → OneOf c (0x01 ∷ 0x23 ∷ 0x24 ∷ 0x30 ∷ 0x40 ∷ 0x47 ∷ 0x48 ∷ []) → length v < fieldLength f
       → ShortData f 3 s
-  no-limit : {s v : List ℕ} → Behind f s v → HasType f 0x03 → f .fieldLength ≡ 0 → NoZero (length v) v → ShortData f 3 s
-  not-yet : {s v : List ℕ} → Behind f s v → HasType f 0x03 → 0 < f .fieldLength → f .mode ≡ 1 → length v < f .fieldLength + 1 → NoZero (length v) v
+  no-limit : {s v : List ℕ} → Behind f s v → HasType f 0x03 → fieldLength f ≡ 0 → NoZero (length v) v → ShortData f 3 s
+  not-yet : {s v : List ℕ} → Behind f s v → HasType f 0x03 → 0 < fieldLength f → f .mode ≡ 1 → length v < fieldLength f + 1 → NoZero (length v) v
       → ShortData f 3 s
-  reserved : {s v : List ℕ} → Behind f s v → HasType f 0x03 → 0 < f .fieldLength → f .mode ≡ 0 → length v < f .fieldLength + 1 → ShortData f 3 s
+  reserved : {s v : List ℕ} → Behind f s v → HasType f 0x03 → 0 < fieldLength f → f .mode ≡ 0 → length v < fieldLength f + 1 → ShortData f 3 s
 
 -- 14, Bad count: L negative or, with F above 0, over F.
 pub data BadCount (f : Field) : List ℕ → Type 0 where
   negative : {s v : List ℕ} {n : ℕ} → Behind f s v → L f 2 v n → 0x8000 ≤ n → BadCount f s
-  over-F : {s v : List ℕ} {w n : ℕ} → Behind f s v → L f w v n → 0 < f .fieldLength → f .fieldLength < n → BadCount f s
+  over-F : {s v : List ℕ} {w n : ℕ} → Behind f s v → L f w v n → 0 < fieldLength f → fieldLength f < n → BadCount f s
 
 -- 15, No end: F + 1 bytes present, none zero (X'03', F above 0).
 pub data NoEnd (f : Field) : List ℕ → Type 0 where
-  none-zero : {s v : List ℕ} → Behind f s v → HasType f 0x03 → 0 < f .fieldLength → f .fieldLength + 1 ≤ length v → NoZero (f .fieldLength + 1) v
+  none-zero : {s v : List ℕ} → Behind f s v → HasType f 0x03 → 0 < fieldLength f → fieldLength f + 1 ≤ length v → NoZero (fieldLength f + 1) v
       → NoEnd f s
 
 pub data OfItem (f : Field) (s : List ℕ) : (step number : ℕ) → Type 0 where
@@ -284,7 +292,7 @@ pub data OfItems (fs : List Field) (s : List ℕ) : (turn : List ℕ) → (numbe
       → OfItems fs s (6 ∷ []) 16 (length bytes)
 
 -- THE CALLS: each reason with its turn in 01's order, its number and its place. The order is 1; triplets left to right, each by rising number, with 8, 9,
--- 10 taken group by group; 11; 12 (list call only); then items in order, each by its steps; 16; 17; 18.
+-- 10 taken group by group; 11; 12 (list call only); then items in order, each by its steps; 16; 17; 18; 20.
 pub data OfDescriptor (d : List ℕ) : (turn : List ℕ) → (number place : ℕ) → Type 0 where
   -- 1, Oversize: the descriptor over its limit
   oversize : 4096 < length d → OfDescriptor d (1 ∷ []) 1 0
@@ -317,6 +325,22 @@ pub data OfWholeNumber (d s : List ℕ) (k : ℕ) : (turn : List ℕ) → (numbe
   state : {t : List ℕ} {m p : ℕ} → OfState d s k t m p → OfWholeNumber d s k t m p
   wrong-kind : {q : ℕ} {f : Field} {rest : List ℕ} → StartsAt (unfolded d) s k f q rest → (HasType f 0x23 → ⊥) → (HasType f 0x24 → ⊥)
       → OfWholeNumber d s k (8 ∷ []) 18 q
+
+-- 20, Bad digit (Q-1): in the half-bytes of a value of p digits, two to a byte, an unused one that is not zero, a digit above 9, or a sign below A.
+abbrev pub half : List ℕ → (i : ℕ) → ℕ
+half v i = byte (halfBytes v) i
+
+pub data BadDigit (p : ℕ) (v : List ℕ) : Type 0 where
+  unused : Unused p 1 → half v 0 ≢ 0 → BadDigit p v
+  digit : {u : ℕ} (i : ℕ) → Unused p u → i < p → 9 < half v (u + i) → BadDigit p v
+  sign : {u : ℕ} → Unused p u → half v (u + p) < 0xA → BadDigit p v
+
+-- The read of a packed item k. 18, Wrong kind: of another type, null or not. Then 20, of a value alone.
+pub data OfPacked (d s : List ℕ) (k : ℕ) : (turn : List ℕ) → (number place : ℕ) → Type 0 where
+  state : {t : List ℕ} {m p : ℕ} → OfState d s k t m p → OfPacked d s k t m p
+  wrong-kind : {q : ℕ} {f : Field} {rest : List ℕ} → StartsAt (unfolded d) s k f q rest → (HasType f 0x30 → ⊥) → OfPacked d s k (8 ∷ []) 18 q
+  bad-digit : {q p fraction : ℕ} {f : Field} {rest : List ℕ} {x : Parts} → StartsAt (unfolded d) s k f q rest → f .size ≡ digits p fraction → Begins f rest x
+      → x .isNull ≡ false → BadDigit p (x .value) → OfPacked d s k (9 ∷ []) 20 q
 
 -- The dump program's file: descriptor size and data size, four bytes each, most significant first, descriptor, data. 19, Bad file: it doesn't fit its
 -- sizes; under 8 bytes before a size over its limit, another length after it.

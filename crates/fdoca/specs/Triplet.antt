@@ -6,6 +6,7 @@ use mathlib.Core.Option.{Option}
 use lib.Dec.{ltb}
 use lib.ListN.{length, take, drop, getD}
 use Rattle.fdoca.specs.Basics.{if_then_else_, big, lookup}
+use Rattle.fdoca.specs.FieldType.{Size, Sizes, sizeOf}
 
 -- A triplet's place in the descriptor and its LENGTH bytes; or the place of a torn one, with LENGTH below 2 or past the end.
 pub data Triplet : Type 0 where
@@ -53,15 +54,15 @@ pairs (a ∷ b ∷ s) = big (a ∷ b ∷ []) ∷ pairs s
 abbrev pub extentsOf : List ℕ → List ℕ
 extentsOf t = pairs (drop 12 t)
 
--- Within the parameters: bias indicator in bytes 2 and 3, mode in byte 5, field length in bytes 6 and 7.
+-- Within the parameters: bias indicator in bytes 2 and 3, mode in byte 5, size in bytes 6 and 7.
 abbrev pub biasOf : List ℕ → ℕ
 biasOf ps = big (take 2 (drop 2 ps))
 
 abbrev pub modeOf : List ℕ → ℕ
 modeOf ps = getD ps 5 0
 
-abbrev pub lengthOf : List ℕ → ℕ
-lengthOf ps = big (drop 6 ps)
+abbrev pub sizeIn : Sizes → List ℕ → Size
+sizeIn allowed ps = sizeOf allowed (getD ps 6 0) (getD ps 7 0)
 
 -- A group of an RLO or CPT: id referred to, elements taken, repetition factor.
 pub record Group : Type 0 where

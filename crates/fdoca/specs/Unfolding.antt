@@ -5,8 +5,8 @@ use mathlib.Core.List.{List, [], _∷_, _++_}
 use mathlib.Core.Option.{Option, none, some}
 use lib.ListN.{replicate}
 use Rattle.fdoca.specs.Basics.{lookup, product, repeat}
-use Rattle.fdoca.specs.FieldType.{FieldType, typeOf}
-use Rattle.fdoca.specs.Triplet.{Triplet, torn, triplet, triplets, Construct, SDA, RLO, ISD, CPT, constructOf, idOf, codeOf, parametersOf, modeOf, lengthOf, extentsOf, Group, groupsOf}
+use Rattle.fdoca.specs.FieldType.{FieldType, typeOf, ruleOf}
+use Rattle.fdoca.specs.Triplet.{Triplet, torn, triplet, triplets, Construct, SDA, RLO, ISD, CPT, constructOf, idOf, codeOf, parametersOf, modeOf, sizeIn, extentsOf, Group, groupsOf}
 use Rattle.fdoca.specs.Item.{Field}
 
 -- What an id describes: an SDA's field and its extents, or an RLO's list.
@@ -53,7 +53,8 @@ addFields ds l [] = l
 addFields ds l (g ∷ gs) = addFields ds (l ++ groupFields ds g) gs
 
 abbrev pub fieldOf : FieldType → List ℕ → Field
-fieldOf T t = record { id = idOf t; code = codeOf t; type = T; mode = modeOf (parametersOf t); fieldLength = lengthOf (parametersOf t) }
+fieldOf T t =
+    record { id = idOf t; code = codeOf t; type = T; mode = modeOf (parametersOf t); size = sizeIn (ruleOf T .sizes) (parametersOf t) }
 
 unfoldable pub unfoldSDA : Option FieldType → Layouts → List ℕ → Layouts
 unfoldSDA none st t = st  -- *

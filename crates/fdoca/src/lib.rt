@@ -30,3 +30,12 @@ pub struct Whole {
     pub null: bool,
     pub value: i64,
 }
+
+// A packed item: a whole number, of whose digits the last `fraction` stand behind the decimal point.
+pub struct Decimal {
+    pub number: u32,
+    pub place: u32,
+    pub null: bool,
+    pub value: i64,
+    pub fraction: u8,
+}
