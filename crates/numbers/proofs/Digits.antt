@@ -2,19 +2,18 @@
 -- Assumes nothing.
 use mathlib.Core.Path.{_≡_, refl, _∙_}
 use Prim.Native.Nat.{ℕ, zero, suc, _+_, _-_, _*_, _<_, _≤_, _^_}
-use native.Mathlib.Numerals.{add-one}
-use native.Mathlib.Nat.{pow-suc, pow-le-pow-right}
+use native.Mathlib.Nat.{pow-le-pow-right}
 use native.Mathlib.Omega.{arith}
 use mathlib.Core.Bool.{Bool, true, false}
 use mathlib.Core.List.{List, [], _∷_, reverse, reverse-cons}
-use lib.Dec.{lit<}
+use lib.Dec.{lit<, lit≤}
 use lib.ListN.{length, getD, take, length-reverse, List·getD-append}
-use lib.Seq.{take-suc, take-all, getD-at}
+use lib.Seq.{take-all, getD-at}
 use mir.Syntax.{w64}
 use mir.Val.{Fits}
-use Rattle.fdoca.specs.Basics.{big}
+use Rattle.fdoca.specs.Basics.{big, inBase}
 use Rattle.numbers.specs.Whole.{ordered}
-use Rattle.numbers.proofs.Big.{big-append}
+use Rattle.numbers.proofs.Big.{one-more, room, taken-more}
 
 -- the byte that stands j before the end of the reversed bytes
 reverse-at : (s : List ℕ) (j : ℕ) → j < length s → getD (reverse s) (length s - suc j) 0 ≡ getD s j 0
@@ -44,34 +43,27 @@ module _ (s : List ℕ) (reversed : Bool) (i b : ℕ) where
   unfolding ordered
   digit-front t e = rw (t, e)
 
--- below 256 ^ k, with one digit more below 256 ^ (k + 1)
+-- below 256 ^ k, with one byte more below 256 ^ (k + 1)
 pub more : (k n b : ℕ) → n < 256 ^ k → b < 256 → n * 256 + b < 256 ^ (k + 1)
-more k n b l d = rw (add-one, pow-suc) (omega arith)
+more k n b l d = one-more 256 k n b l d
 
--- fewer than eight digits leave room for one more
+-- fewer than eight bytes leave room for one more
 module _ (m k n : ℕ) (few : m ≤ 8) (left : k < m) (l : n < 256 ^ k) where
-  room : n * 256 + 255 < 2 ^ 64
-  room =
-      let h : k ≤ 7 = omega arith in
-      let q : 256 ^ k ≤ 256 ^ 7 = pow-le-pow-right (lit< tt) h in
-      omega arith
-
   pub room-times : Fits w64 (n * 256)
-  room-times = record { fits = omega (arith, room) }
+  room-times = record { fits = omega (arith, room 256 8 k n 0 (lit< tt) (lit≤ tt) (omega arith) l (lit< tt)) }
 
   pub room-plus : (b : ℕ) → b < 256 → Fits w64 (n * 256 + b)
-  room-plus b d = record { fits = omega (arith, room) }
+  room-plus b d = record { fits = room 256 8 k n b (lit< tt) (lit≤ tt) (omega arith) l d }
 
 -- the number of the first i bytes
 module _ (s : List ℕ) (reversed : Bool) where
   pub first-none : 0 ≡ big (take 0 (ordered s reversed))
-  unfolding big
+  unfolding big inBase
   first-none = refl
 
   pub first-more : (i n b : ℕ) → i < length s → b ≡ getD (ordered s reversed) i 0 → n ≡ big (take i (ordered s reversed)) → n * 256 + b ≡ big (take (i + 1) (ordered s reversed))
-  first-more i n b l e h =
-      let t : i < length (ordered s reversed) = rw ordered-length l in
-      rw (add-one, take-suc (ordered s reversed) i 0 t, big-append, ← h, e)
+  unfolding big
+  first-more i n b l e h = taken-more 256 (ordered s reversed) i n b (rw ordered-length l) e h
 
   pub first-all : (i n : ℕ) → length s ≤ i → n ≡ big (take i (ordered s reversed)) → n ≡ big (ordered s reversed)
   first-all i n l h =

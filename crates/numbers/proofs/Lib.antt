@@ -3,3 +3,4 @@ pub mod Digits
 pub mod Sign
 pub mod Whole
 pub mod Pairs
+pub mod Decimals

@@ -38,7 +38,7 @@ pub half-above : (n h w : ℕ) → n < 256 ^ w → 2 * h ≡ 256 ^ w → n < 2 *
 half-above n h w l e = omega arith
 
 -- a less b, below zero
-below : (a b : ℕ) → a < b → pos a -ℤ pos b ≡ negsuc (b - suc a)
+pub below : (a b : ℕ) → a < b → pos a -ℤ pos b ≡ negsuc (b - suc a)
 below a zero l = absurd (not-suc-le-zero l)
 below a (suc b) l = simp (lt-ltb a (suc b) l)
 
@@ -47,7 +47,7 @@ less-one : (k : ℕ) → negsuc 0 -ℤ pos k ≡ negsuc k
 less-one zero = refl
 less-one (suc k) = ap (λ (n : ℕ). negsuc (suc n)) (zero-add k)
 
-plain : (n : ℕ) → n < 2 ^ 63 → toZ w64 n ≡ pos n
+pub plain : (n : ℕ) → n < 2 ^ 63 → toZ w64 n ≡ pos n
 plain n l = simp (lt-ltb n (2 ^ 63) l)
 
 -- the ways through `complement`

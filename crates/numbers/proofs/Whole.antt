@@ -12,7 +12,7 @@ use mir.Syntax.{w64}
 use mir.Val.{SFits, toZ, ofZ}
 use mir.ValLaws.{toZ-ofZ}
 use borrow.Author.Tests.{le-leb, lt-leb}
-use Rattle.fdoca.specs.Basics.{big}
+use Rattle.fdoca.specs.Basics.{big, inBase}
 use Rattle.fdoca.specs.FieldType.{integer, reversedInteger}
 use Rattle.fdoca.specs.Calls.{signed, wholeOf}
 use Rattle.numbers.specs.Whole.{ordered, twos, wholeUpTo8}
@@ -20,7 +20,7 @@ use Rattle.numbers.proofs.Digits.{ordered-length}
 use Rattle.numbers.proofs.Sign.{by-half}
 
 pub no-bytes : (s : List ℕ) (reversed : Bool) → length s ≡ 0 → pos 0 ≡ wholeUpTo8 s reversed
-unfolding wholeUpTo8 ordered signed big
+unfolding wholeUpTo8 ordered signed big inBase
 no-bytes [] true l = refl
 no-bytes [] false l = refl
 no-bytes (b ∷ s) reversed l = absurd (let z : ⊥ = omega arith in z)

@@ -1,5 +1,5 @@
 use borrow.Author.Needs.{needs}
-use Rattle.fdoca.specs.Basics.{big}
+use Rattle.fdoca.specs.Basics.{big, inBase}
 use Rattle.numbers.proofs.pair.Statement.{statement}
 use Rattle.numbers.proofs.pair.Tie as tie
 
@@ -10,7 +10,7 @@ add-result : tie.Need-add-result
 add-result c = search needs
 
 returns : tie.Need-returns
-unfolding big
+unfolding big inBase
 returns c = search needs
 
 pub pair-spec : {M : Type 1} → statement M
