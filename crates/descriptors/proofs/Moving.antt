@@ -159,7 +159,7 @@ module _ (d s z e s′ z′ e′ : List ℕ) (p n : ℕ) (x r : Step) (u : Layou
       let tl = st .told q in
       let few : product xs ≤ 4096 = rw (tl .2) at (st .small) in
       let sz = sda-size (product xs) (lowerOf xs) few in
-      let pr : Proper f = w .is-entry .proper (ty .0) (good-id sda g) in
+      let pr : Proper f = w .is-entry .proper (ty .0) (ty .1) (good-id sda g) in
       let ee : w .entry ≡ entryOf f = w .is-entry .same (ty .0) (ty .1) in
       let sized : Entered p (product xs + 65536 * lowerOf xs) (entry (array f xs)) =
       record { here = λ k. omega arith; count = sz .0; lower = sz .1; positive = positive-lower xs (good-positive sda g) } in

@@ -8,10 +8,10 @@ use mathlib.Core.Option.{Option, none, some}
 use lib.Dec.{T}
 use lib.ListN.{length, getD}
 use borrow.Author.Tests.{le-leb, lt-leb}
-use Rattle.fdoca.specs.FieldType.{FieldType, fixedBytes, variableBytes, terminatedBytes, shortBytes, integer, reversedInteger, hexFloat, reversedFloat, binaryFloat, types, typeOf, Layout, fixed, counted, terminated, signedTwo, unsignedOne, ruleOf}
+use Rattle.fdoca.specs.FieldType.{FieldType, fixedBytes, variableBytes, terminatedBytes, shortBytes, integer, reversedInteger, packedDecimal, hexFloat, reversedFloat, binaryFloat, types, typeOf, Layout, fixed, counted, terminated, signedTwo, unsignedOne}
 use Rattle.fdoca.proofs.Table.{agrees, is-table, past-end}
 use Rattle.field_types.specs.declared.Rule.{Rule}
-use Rattle.field_types.specs.Rows.{rowOf, RowTable, typeAt, prefixOf, layoutOf, inNumbers, ruleFor, encoded, ruleAt}
+use Rattle.field_types.specs.Rows.{rowOf, RowTable, typeAt, prefixOf, layoutOf, encoded, ruleAt}
 
 -- a type plus X'80' is the same type
 pub type-nullable : (code : ℕ) → code < 128 → typeOf (code + 128) ≡ typeOf code
@@ -38,6 +38,7 @@ type-in-row (some terminatedBytes) = refl
 type-in-row (some shortBytes) = refl
 type-in-row (some integer) = refl
 type-in-row (some reversedInteger) = refl
+type-in-row (some packedDecimal) = refl
 type-in-row (some hexFloat) = refl
 type-in-row (some reversedFloat) = refl
 type-in-row (some binaryFloat) = refl
@@ -46,17 +47,13 @@ pub rule-in-row : (o : Option FieldType) → ruleAt (rowOf o) ≡ encoded o
 unfolding ruleAt
 rule-in-row o = ap encoded (type-in-row o)
 
--- the layout behind the number of a rule
-layout-back : (l : Layout) → layoutOf (prefixOf l) ≡ l
+-- the layout behind its number
+pub layout-back : (l : Layout) → layoutOf (prefixOf l) ≡ l
 unfolding layoutOf prefixOf
 layout-back fixed = refl
 layout-back (counted signedTwo) = refl
 layout-back (counted unsignedOne) = refl
 layout-back terminated = refl
-
-pub layout-of-rule : (T : FieldType) → layoutOf (encoded (some T) .prefix) ≡ ruleOf T .layout
-unfolding encoded inNumbers ruleFor
-layout-of-rule T = layout-back (ruleOf T .layout)
 
 -- a row that is k has the rule of row k
 pub in-row : (r : Rule) (row k : ℕ) → row ≡ k → r ≡ ruleAt k → r ≡ ruleAt row
@@ -72,7 +69,7 @@ behind row zero n h = h
 behind row (suc k) n h = let l : k < row = behind row k (n .0) h in omega (arith, n .1)
 
 -- rows outside the table have no type
-pub outside-table : (row : ℕ) → NoneTo row 9 → encoded none ≡ ruleAt row
+pub outside-table : (row : ℕ) → NoneTo row 10 → encoded none ≡ ruleAt row
 unfolding ruleAt typeAt
 outside-table zero n = refl
-outside-table (suc k) n = let l : 9 < suc k = behind (suc k) 9 n (omega arith) in rw (past-end types k (omega arith))
+outside-table (suc k) n = let l : 10 < suc k = behind (suc k) 10 n (omega arith) in rw (past-end types k (omega arith))

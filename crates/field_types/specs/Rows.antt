@@ -7,7 +7,7 @@ use mathlib.Core.Option.{Option, none, some}
 use lib.Dec.{eqb}
 use lib.ListN.{getD, getElem?}
 use Rattle.fdoca.specs.Basics.{if_then_else_}
-use Rattle.fdoca.specs.FieldType.{FieldType, fixedBytes, variableBytes, terminatedBytes, shortBytes, integer, reversedInteger, hexFloat, reversedFloat, binaryFloat, types, typeOf, Layout, fixed, counted, terminated, signedTwo, unsignedOne, Lengths, upTo, oneOf, rule, ruleOf}
+use Rattle.fdoca.specs.FieldType.{FieldType, fixedBytes, variableBytes, terminatedBytes, shortBytes, integer, reversedInteger, packedDecimal, hexFloat, reversedFloat, binaryFloat, types, typeOf, Layout, fixed, counted, terminated, signedTwo, unsignedOne, Sizes, upTo, oneOf, digitsUpTo, rule, ruleOf}
 use Rattle.fdoca.specs.FieldType as definition
 use Rattle.fdoca.specs.Check.{most}
 use Rattle.field_types.specs.declared.Rule.{Rule}
@@ -21,9 +21,10 @@ rowOf (some terminatedBytes) = 3
 rowOf (some shortBytes) = 4
 rowOf (some integer) = 5
 rowOf (some reversedInteger) = 6
-rowOf (some hexFloat) = 7
-rowOf (some reversedFloat) = 8
-rowOf (some binaryFloat) = 9
+rowOf (some packedDecimal) = 7
+rowOf (some hexFloat) = 8
+rowOf (some reversedFloat) = 9
+rowOf (some binaryFloat) = 10
 
 -- A table of the rows of all type codes.
 pub record RowTable (rows : List ℕ) : Type 0 where
@@ -52,27 +53,50 @@ layoutOf n =
     else if eqb n 2 then counted signedTwo
     else terminated
 
--- The field lengths: all below a number, or some sizes.
-unfoldable pub topOf : Lengths → ℕ
+-- The field lengths: all below a number, or some sizes. And the most digits, 0 where the size is a field length.
+unfoldable pub topOf : Sizes → ℕ
 topOf (upTo n) = n + 1
 topOf (oneOf ns) = 0
+topOf (digitsUpTo n) = 0
 
-unfoldable pub sizesOf : Lengths → List ℕ
+unfoldable pub sizesOf : Sizes → List ℕ
 sizesOf (upTo n) = []
 sizesOf (oneOf ns) = ns
+sizesOf (digitsUpTo n) = []
+
+unfoldable pub mostDigits : Sizes → ℕ
+mostDigits (upTo n) = 0
+mostDigits (oneOf ns) = 0
+mostDigits (digitsUpTo n) = n
 
 -- The size at k, or a number that no field length is, since two bytes do not hold it.
 abbrev pub noSize : ℕ
 noSize = 65536
 
-unfoldable pub sizeAt : Lengths → (k : ℕ) → ℕ
-sizeAt l k = getD (sizesOf l) k noSize
+unfoldable pub sizeAt : Sizes → (k : ℕ) → ℕ
+sizeAt z k = getD (sizesOf z) k noSize
+
+-- The layout's number, and 4 where the size is in digits.
+unfoldable pub formOf : Sizes → Layout → ℕ
+formOf (upTo n) l = prefixOf l
+formOf (oneOf ns) l = prefixOf l
+formOf (digitsUpTo n) l = 4
 
 -- A rule as the table holds it.
 unfoldable pub inNumbers : definition.Rule → Rule
-inNumbers r = record { top = topOf (r .lengths); size1 = sizeAt (r .lengths) 0; size2 = sizeAt (r .lengths) 1; size3 = sizeAt (r .lengths) 2; modes = most (r .hasMode); biases = most (r .hasBias); prefix = prefixOf (r .layout) }
+inNumbers r =
+    record {
+      top = topOf (r .sizes);
+      size1 = sizeAt (r .sizes) 0;
+      size2 = sizeAt (r .sizes) 1;
+      size3 = sizeAt (r .sizes) 2;
+      digits = mostDigits (r .sizes);
+      modes = most (r .hasMode);
+      biases = most (r .hasBias);
+      prefix = formOf (r .sizes) (r .layout);
+    }
 
--- The rule by which a code is judged: where there is no type, no field length is allowed.
+-- The rule by which a code is judged: where there is no type, no size is allowed.
 unfoldable pub ruleFor : Option FieldType → definition.Rule
 ruleFor none = rule fixed (oneOf []) false false
 ruleFor (some T) = ruleOf T

@@ -1,28 +1,34 @@
-// Field types (document 01, "Field types"): the row of a type code, the rule of each row, and the test of an SDA's type parameters.
+// Field types (document 01, "Field types"; document 02, Q-1): the row of a type code, the rule of each row, and the test of an SDA's type parameters.
 ghost use mathlib.Core.Path.{_≡_};
+ghost use Prim.Native.Nat.{_<_};
 ghost use lib.ListN.{length};
 ghost use Rattle.fdoca.specs.FieldType.{typeOf};
 ghost use Rattle.field_types.specs.Rows.{rowOf, RowTable, ruleAt};
-ghost use Rattle.field_types.specs.Parameters.{unusedZero, ruleAllows, goodEight, layoutIf};
+ghost use Rattle.field_types.specs.Parameters.{unusedZero, lengthAllowed, digitsAllowed, sizeAllowed, ruleAllows, goodEight, layoutIf};
 use numbers::pair;
+use numbers::wide;
 
 // A number that no field length is, since two bytes do not hold it.
 const NO_SIZE: usize = 65536;
+
+// The number that stands for the layout of a packed decimal, whose size is in digits.
+pub const DIGITS: u8 = 4;
 
 // A number that no layout has.
 pub const NO_LAYOUT: u8 = 255;
 
 // What a field type allows as its type parameters, and how long its values are.
 struct Rule {
-    // The field length is below `top`, or is one of three sizes.
+    // The field length is below `top`, or is one of three sizes; or there are so many digits at the most, 0 where the size is no digits.
     top: usize,
     size1: usize,
     size2: usize,
     size3: usize,
+    digits: usize,
     // The largest mode, and the largest bias indicator.
     modes: u8,
     biases: usize,
-    // A value has the field length (0), follows a length field of one or two bytes (1, 2), or ends before a zero byte (3).
+    // A value has the field length (0), follows a length field of one or two bytes (1, 2), ends before a zero byte (3), or has digits (4).
     prefix: u8,
 }
 
@@ -76,6 +82,7 @@ const ROWS: [u8; 256] = [
     0,
     0,
     0,
+    7, // X'30'
     0,
     0,
     0,
@@ -91,16 +98,15 @@ const ROWS: [u8; 256] = [
     0,
     0,
     0,
-    0,
-    7, // X'40'
-    0,
+    8, // X'40'
     0,
     0,
     0,
     0,
     0,
-    8, // X'47'
-    9, // X'48'
+    0,
+    9, // X'47'
+    10, // X'48'
     0,
     0,
     0,
@@ -204,6 +210,7 @@ const ROWS: [u8; 256] = [
     0,
     0,
     0,
+    7, // X'B0'
     0,
     0,
     0,
@@ -219,16 +226,15 @@ const ROWS: [u8; 256] = [
     0,
     0,
     0,
-    0,
-    7, // X'C0'
-    0,
+    8, // X'C0'
     0,
     0,
     0,
     0,
     0,
-    8, // X'C7'
-    9, // X'C8'
+    0,
+    9, // X'C7'
+    10, // X'C8'
     0,
     0,
     0,
@@ -287,13 +293,14 @@ const ROWS: [u8; 256] = [
 ];
 
 // The rules, row by row. Row 0 allows no field length, and so nothing.
-const RULES: [Rule; 10] = [
+const RULES: [Rule; 11] = [
     // no field type
     Rule {
         top: 0,
         size1: NO_SIZE,
         size2: NO_SIZE,
         size3: NO_SIZE,
+        digits: 0,
         modes: 0,
         biases: 0,
         prefix: 0,
@@ -304,6 +311,7 @@ const RULES: [Rule; 10] = [
         size1: NO_SIZE,
         size2: NO_SIZE,
         size3: NO_SIZE,
+        digits: 0,
         modes: 0,
         biases: 0,
         prefix: 0,
@@ -314,6 +322,7 @@ const RULES: [Rule; 10] = [
         size1: NO_SIZE,
         size2: NO_SIZE,
         size3: NO_SIZE,
+        digits: 0,
         modes: 1,
         biases: 0,
         prefix: 2,
@@ -324,6 +333,7 @@ const RULES: [Rule; 10] = [
         size1: NO_SIZE,
         size2: NO_SIZE,
         size3: NO_SIZE,
+        digits: 0,
         modes: 1,
         biases: 0,
         prefix: 3,
@@ -334,6 +344,7 @@ const RULES: [Rule; 10] = [
         size1: NO_SIZE,
         size2: NO_SIZE,
         size3: NO_SIZE,
+        digits: 0,
         modes: 1,
         biases: 0,
         prefix: 1,
@@ -344,6 +355,7 @@ const RULES: [Rule; 10] = [
         size1: 2,
         size2: 4,
         size3: 8,
+        digits: 0,
         modes: 0,
         biases: 0,
         prefix: 0,
@@ -354,9 +366,21 @@ const RULES: [Rule; 10] = [
         size1: 2,
         size2: 4,
         size3: 8,
+        digits: 0,
         modes: 0,
         biases: 0,
         prefix: 0,
+    },
+    // X'30'
+    Rule {
+        top: 0,
+        size1: NO_SIZE,
+        size2: NO_SIZE,
+        size3: NO_SIZE,
+        digits: 18,
+        modes: 0,
+        biases: 0,
+        prefix: DIGITS,
     },
     // X'40'
     Rule {
@@ -364,6 +388,7 @@ const RULES: [Rule; 10] = [
         size1: 4,
         size2: 8,
         size3: 16,
+        digits: 0,
         modes: 0,
         biases: 0,
         prefix: 0,
@@ -374,6 +399,7 @@ const RULES: [Rule; 10] = [
         size1: 4,
         size2: 8,
         size3: NO_SIZE,
+        digits: 0,
         modes: 0,
         biases: 1,
         prefix: 0,
@@ -384,6 +410,7 @@ const RULES: [Rule; 10] = [
         size1: 4,
         size2: 8,
         size3: NO_SIZE,
+        digits: 0,
         modes: 0,
         biases: 1,
         prefix: 0,
@@ -418,6 +445,7 @@ fn rule_at(row: u8) -> Rule
         7 => RULES[7],
         8 => RULES[8],
         9 => RULES[9],
+        10 => RULES[10],
         _ => RULES[0],
     }
 }
@@ -439,16 +467,10 @@ fn unused_zero(ps: &[u8]) -> bool
     true
 }
 
-// Whether a rule allows a bias indicator, a mode and a field length.
-fn rule_allows(rule: Rule, bias: usize, mode: u8, f: usize) -> bool
-    ensures { λ r. ⌜ r ≡ ruleAllows rule bias mode f ⌝ }
+// Whether a rule allows a field length.
+fn length_allowed(rule: Rule, f: usize) -> bool
+    ensures { λ r. ⌜ r ≡ lengthAllowed rule f ⌝ }
 {
-    if rule.biases < bias {
-        return false;
-    }
-    if rule.modes < mode {
-        return false;
-    }
     if f < rule.top {
         return true;
     }
@@ -464,6 +486,44 @@ fn rule_allows(rule: Rule, bias: usize, mode: u8, f: usize) -> bool
     false
 }
 
+// Whether there are 1 to `most` digits, and at most as many fraction digits.
+fn digits_allowed(most: usize, p: usize, fraction: usize) -> bool
+    ensures { λ r. ⌜ r ≡ digitsAllowed most p fraction ⌝ }
+{
+    if p < 1 {
+        return false;
+    }
+    if most < p {
+        return false;
+    }
+    fraction <= p
+}
+
+// Whether a rule allows a size, by the two bytes that say it.
+fn size_allowed(rule: Rule, a: usize, b: usize) -> bool
+    requires { ⌜ (a < 256) × (b < 256) ⌝ }
+    ensures { λ r. ⌜ r ≡ sizeAllowed rule a b ⌝ }
+{
+    if rule.digits == 0 {
+        return length_allowed(rule, a * 256 + b);
+    }
+    digits_allowed(rule.digits, a, b)
+}
+
+// Whether a rule allows a bias indicator, a mode and a size.
+fn rule_allows(rule: Rule, bias: usize, mode: u8, a: usize, b: usize) -> bool
+    requires { ⌜ (a < 256) × (b < 256) ⌝ }
+    ensures { λ r. ⌜ r ≡ ruleAllows rule bias mode a b ⌝ }
+{
+    if rule.biases < bias {
+        return false;
+    }
+    if rule.modes < mode {
+        return false;
+    }
+    size_allowed(rule, a, b)
+}
+
 // The layout's number of an SDA whose type parameters are eight bytes that its field type allows, else NO_LAYOUT.
 pub fn layout_of(rows: &[u8; 256], code: u8, ps: &[u8]) -> u8
     requires { ⌜ RowTable (now rows) ⌝ }
@@ -476,7 +536,7 @@ pub fn layout_of(rows: &[u8; 256], code: u8, ps: &[u8]) -> u8
         return NO_LAYOUT;
     }
     let rule = rule_at(rows[code as usize]);
-    if rule_allows(rule, pair(ps[2], ps[3]), ps[5], pair(ps[6], ps[7])) {
+    if rule_allows(rule, pair(ps[2], ps[3]), ps[5], wide(ps[6]), wide(ps[7])) {
         return rule.prefix;
     }
     NO_LAYOUT

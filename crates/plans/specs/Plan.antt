@@ -1,21 +1,28 @@
 -- A plan: the unfolding of an accepted descriptor with a number for each field, which holds all that walking and telling an item need.
-use Prim.Native.Nat.{ℕ, _+_, _*_, _<_}
+use Prim.Native.Nat.{ℕ, _+_, _*_, _%_, _<_}
 use mathlib.Core.List.{List, [], _∷_}
-use Rattle.fdoca.specs.FieldType.{ruleOf}
-use Rattle.fdoca.specs.Item.{Field}
+use Rattle.fdoca.specs.FieldType.{Size, bytes, digits, ruleOf}
+use Rattle.fdoca.specs.Item.{Field, fieldLength}
 use Rattle.field_types.specs.Rows.{prefixOf}
 
--- Field length (16 bits), then id, type code, mode and the layout's number (8 bits each). The highest 16 bits are left to the walk.
+-- What a size says beyond its length in bytes: whether its digits are odd in number, and how many are fraction digits.
+unfoldable pub digitsPart : Size → ℕ
+digitsPart (bytes F) = 0
+digitsPart (digits p fraction) = p % 2 + 2 * fraction
+
+-- Field length in bytes (16 bits), then id, type code and mode (8 bits each), the layout's number (2 bits) and the digits' part (6 bits). The
+-- highest 16 bits are left to the walk.
 unfoldable pub entryOf : Field → ℕ
-entryOf f = f .fieldLength + 65536 * (f .id + 256 * (f .code + 256 * (f .mode + 256 * prefixOf (ruleOf (f .type) .layout))))
+entryOf f = fieldLength f + 65536 * (f .id + 256 * (f .code + 256 * (f .mode + 256 * (prefixOf (ruleOf (f .type) .layout) + 4 * digitsPart (f .size)))))
 
 -- The parts of a field that an accepted descriptor can have.
 pub record Proper (f : Field) : Type 0 where
-  pub length-fits : f .fieldLength < 65536
+  pub length-fits : fieldLength f < 65536
   pub id-fits : f .id < 256
   pub id-given : 0 < f .id
   pub code-fits : f .code < 256
   pub mode-fits : f .mode < 256
+  pub digits-fit : digitsPart (f .size) < 64
 
 -- The numbers of a plan stand for the fields.
 pub data Planned : List ℕ → List Field → Type 0 where

@@ -1,31 +1,31 @@
 -- What is kept of an SDA: its plan entry, and its size.
 -- Assumes nothing.
 use mathlib.Core.Path.{_≡_, refl, sym, ap, _∙_}
-use Prim.Native.Nat.{ℕ, zero, suc, _+_, _-_, _*_, _≤_, _<_}
+use Prim.Native.Nat.{ℕ, zero, suc, _+_, _*_, _%_, _≤_, _<_}
 use native.Mathlib.Omega.{arith}
 use native.Mathlib.Nat.{mul-one, zero-mul, mul-le-mul-right}
 use mathlib.Core.Bool.{Bool, true, false, not, _&&_}
 use mathlib.Core.List.{List, [], _∷_}
 use mathlib.Core.Option.{Option, none, some}
-use lib.Dec.{eqb}
-use lib.ListN.{length, getD, set, take, drop, length-drop}
-use lib.Seq.{getD-take, getD-drop, drop-drop, take-add, drop-at, length-take-le}
-use borrow.Author.Tests.{ltb-true, eqb-false}
+use lib.Dec.{leb, eqb, lit<}
+use lib.ListN.{length, getD, set, drop}
+use lib.Seq.{getD-take, getD-drop}
+use borrow.Author.Tests.{ltb-true, leb-true, eqb-false}
 use mir.Syntax.{w32, w64}
 use mir.Val.{Fits}
-use Rattle.fdoca.specs.Basics.{elem, big, product}
-use Rattle.fdoca.specs.FieldType.{FieldType, typeOf, ruleOf}
-use Rattle.fdoca.specs.Triplet.{idOf, codeOf, parametersOf, modeOf, lengthOf, extentsOf}
+use Rattle.fdoca.specs.Basics.{elem, product}
+use Rattle.fdoca.specs.FieldType.{FieldType, fixedBytes, variableBytes, terminatedBytes, shortBytes, integer, reversedInteger, packedDecimal, hexFloat, reversedFloat, binaryFloat, typeOf, inBytes, sizeOf, allows, ruleOf}
+use Rattle.fdoca.specs.Triplet.{idOf, codeOf, parametersOf, extentsOf}
 use Rattle.fdoca.specs.Check.{goodLengthSDA, goodType, goodSDA}
 use Rattle.fdoca.proofs.Tests.{and-left, and-right}
-use Rattle.fdoca.proofs.Account.{big-two}
-use Rattle.field_types.specs.Rows.{prefixOf, ruleFor}
+use Rattle.fdoca.specs.Unfolding.{fieldOf}
+use Rattle.fdoca.proofs.Fields.{good-SDA}
+use Rattle.field_types.specs.Rows.{prefixOf, formOf, ruleFor}
 use Rattle.field_types.specs.Parameters.{layoutNumber}
-use Rattle.numbers.proofs.Pairs.{two-at}
-use Rattle.plans.specs.Plan.{entryOf}
+use Rattle.plans.specs.Plan.{digitsPart, entryOf, Proper}
 use Rattle.plans.specs.Tied.{lowerOf}
 use Rattle.sdas.specs.Judged.{extentOr1}
-use Rattle.sdas.specs.Kept.{EntryOf, PutSDA}
+use Rattle.sdas.specs.Kept.{lengthPart, layoutPart, EntryOf, PutSDA}
 use Rattle.sdas.proofs.Sda.{FourLengths, none-left, one-left, two-left, three-left, four-lengths, extents-next, extents-end, left-out, no-zero}
 
 -- the parts of a good SDA
@@ -90,39 +90,70 @@ module _ (t : List ℕ) (count lower : ℕ) (g : goodSDA t ≡ true) (e : count 
   pub size-fits : Fits w32 (count + 65536 * lower)
   size-fits = let h : lower ≤ 4096 = least in record { fits = omega arith }
 
--- the mode and the field length of the parameters
-module _ (t : List ℕ) (h : 12 ≤ length t) where
-  pub mode-byte : modeOf (parametersOf t) ≡ getD t 9 0
-  mode-byte = getD-take 8 (drop 4 t) 5 0 (omega arith) ∙ getD-drop 4 t 5 0
+-- the digits' part of a layout's number
+pub digits-way : (layout a b : ℕ) → layout ≡ 4 → b < 256 → (4 * (a % 2 + 2 * b) ≡ layoutPart layout a b) × (4 * (a % 2 + 2 * b) < 4096)
+unfolding layoutPart
+digits-way layout a b e l = (rw e, omega arith)
 
-  pub length-bytes : lengthOf (parametersOf t) ≡ getD t 10 0 * 256 + getD t 11 0
-  length-bytes =
-      let x : List ℕ = drop 4 t in
-      let n : length x ≡ length t - 4 = length-drop 4 t in
-      let six : length (take 6 x) ≡ 6 = length-take-le 6 x (omega arith) in
-      let e : drop 6 (take 8 x) ≡ take 2 (drop 6 x) = rw (take-add 6 2 x) (drop-at (take 6 x) (take 2 (drop 6 x)) 6 six) in
-      let f : take 2 (drop 6 x) ≡ getD t 10 0 ∷ getD t 11 0 ∷ [] = rw (drop-drop 6 4 t) (two-at t 10 (omega arith)) in
-      ap big (e ∙ f) ∙ big-two (getD t 10 0) (getD t 11 0)
+-- a size's parts of the entry, by the type
+parts-of : (T : FieldType) (a b : ℕ) → allows (ruleOf T .sizes) (sizeOf (ruleOf T .sizes) a b) ≡ true
+    → (lengthPart (formOf (ruleOf T .sizes) (ruleOf T .layout)) a b ≡ inBytes (sizeOf (ruleOf T .sizes) a b))
+    × (layoutPart (formOf (ruleOf T .sizes) (ruleOf T .layout)) a b ≡ prefixOf (ruleOf T .layout) + 4 * digitsPart (sizeOf (ruleOf T .sizes) a b))
+    × (digitsPart (sizeOf (ruleOf T .sizes) a b) < 64)
+unfolding ruleOf formOf prefixOf digitsPart lengthPart layoutPart
+parts-of fixedBytes a b h = (refl, refl, lit< tt)
+parts-of variableBytes a b h = (refl, refl, lit< tt)
+parts-of terminatedBytes a b h = (refl, refl, lit< tt)
+parts-of shortBytes a b h = (refl, refl, lit< tt)
+parts-of integer a b h = (refl, refl, lit< tt)
+parts-of reversedInteger a b h = (refl, refl, lit< tt)
+parts-of packedDecimal a b h =
+    let k : (leb 1 a && leb a 18) ≡ true = and-left (leb 1 a && leb a 18) (leb b a) h in
+    let p : a ≤ 18 = leb-true a 18 (and-right (leb 1 a) (leb a 18) k) in
+    let q : b ≤ a = leb-true b a (and-right (leb 1 a && leb a 18) (leb b a) h) in
+    (refl, omega arith, omega arith)
+parts-of hexFloat a b h = (refl, refl, lit< tt)
+parts-of reversedFloat a b h = (refl, refl, lit< tt)
+parts-of binaryFloat a b h = (refl, refl, lit< tt)
+
+module _ (t : List ℕ) (long : 12 ≤ length t) where
+  parameter : (i : ℕ) → i < 8 → getD (parametersOf t) i 0 ≡ getD t (4 + i) 0
+  parameter i h = getD-take 8 (drop 4 t) i 0 h ∙ getD-drop 4 t i 0
 
   -- the plan's entry, from its parts
-  pub entry-way : (layout l m c i a b : ℕ) → layout ≡ layoutNumber (codeOf t) → l ≡ layout
-      → m ≡ getD t 9 0 → m < 256 → c ≡ getD t 3 0 → c < 256 → i ≡ getD t 2 0 → i < 256 → a ≡ getD t 10 0 → a < 256 → b ≡ getD t 11 0 → b < 256
-      → EntryOf t (a * 256 + b + 65536 * (i + 256 * (c + 256 * (m + 256 * l))))
+  pub entry-way : (layout l m c i a b n : ℕ) → goodSDA t ≡ true → layout ≡ layoutNumber (codeOf t) → l ≡ layoutPart layout a b → n ≡ lengthPart layout a b → n < 65536
+      → m ≡ getD t 9 0 → m < 256 → c ≡ getD t 3 0 → c < 256 → i ≡ getD t 2 0 → i < 256 → a ≡ getD t 10 0 → b ≡ getD t 11 0
+      → EntryOf t (n + 65536 * (i + 256 * (c + 256 * (m + 256 * l))))
   unfolding entryOf layoutNumber ruleFor
-  entry-way layout l m c i a b en el em mf ec cf ei ifs ea af eb bf =
-      record {
-        same = λ T q.
-            let k : l ≡ prefixOf (ruleOf T .layout) = el ∙ en ∙ ap (λ o. prefixOf (ruleFor o .layout)) q in
-            rw (length-bytes, mode-byte, ← em, ← ec, ← ei, ← ea, ← eb, ← k);
-        proper = λ T z.
-            record {
-              length-fits = rw length-bytes (omega arith);
-              id-fits = omega arith;
-              id-given = omega (arith, z);
-              code-fits = omega arith;
-              mode-fits = rw mode-byte (omega arith);
-            };
-      }
+  entry-way layout l m c i a b n good el e₁ e₂ nf em mf ec cf ei ifs ea eb = record { same = λ T q. same T q; proper = λ T q z. fits T q z }
+    where
+      sizes : (T : FieldType) → fieldOf T t .size ≡ sizeOf (ruleOf T .sizes) a b
+      sizes T = rw (parameter 6 (omega arith), parameter 7 (omega arith), ← ea, ← eb)
+
+      parts : (T : FieldType) → typeOf (codeOf t) ≡ some T
+          → (n ≡ inBytes (sizeOf (ruleOf T .sizes) a b)) × (l ≡ prefixOf (ruleOf T .layout) + 4 * digitsPart (sizeOf (ruleOf T .sizes) a b)) × (digitsPart (sizeOf (ruleOf T .sizes) a b) < 64)
+      parts T q =
+          let h : allows (ruleOf T .sizes) (sizeOf (ruleOf T .sizes) a b) ≡ true = rw (sizes T) at (good-SDA t T q good .allowed) in
+          let k : layout ≡ formOf (ruleOf T .sizes) (ruleOf T .layout) = el ∙ ap (λ o. formOf (ruleFor o .sizes) (ruleFor o .layout)) q in
+          let (x, y, z) = parts-of T a b h in
+          (e₂ ∙ ap (λ k. lengthPart k a b) k ∙ x, e₁ ∙ ap (λ k. layoutPart k a b) k ∙ y, z)
+
+      same : (T : FieldType) → typeOf (codeOf t) ≡ some T → n + 65536 * (i + 256 * (c + 256 * (m + 256 * l))) ≡ entryOf (fieldOf T t)
+      same T q =
+          let (x, y, _) = parts T q in
+          rw (sizes T, parameter 5 (omega arith), ← em, ← ec, ← ei, ← x, ← y)
+
+      fits : (T : FieldType) → typeOf (codeOf t) ≡ some T → (idOf t ≡ 0 → ⊥) → Proper (fieldOf T t)
+      fits T q z =
+          let (x, _, y) = parts T q in
+          record {
+            length-fits = rw (sizes T, ← x) nf;
+            id-fits = omega arith;
+            id-given = omega (arith, z);
+            code-fits = omega arith;
+            mode-fits = rw (parameter 5 (omega arith)) (omega arith);
+            digits-fit = rw (sizes T) y;
+          }
 
 pub put-way : (t s z e : List ℕ) (p i count lower entry : ℕ) → i ≡ getD t 2 0 → i < 256 → lower ≡ lowerOf (extentsOf t) → count ≡ product (extentsOf t)
     → EntryOf t entry → PutSDA t p s z e (set s i p) (set z i (count + 65536 * lower)) (set e i entry)

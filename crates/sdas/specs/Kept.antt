@@ -1,20 +1,29 @@
 -- What is kept of an SDA in the tables of positions, sizes and plan entries.
-use Prim.Native.Nat.{ℕ, _+_, _*_, _<_}
+use Prim.Native.Nat.{ℕ, _+_, _*_, _/_, _%_, _<_}
 use mathlib.Core.Path.{_≡_}
 use mathlib.Core.List.{List}
 use mathlib.Core.Option.{some}
+use lib.Dec.{eqb}
 use lib.ListN.{set}
-use Rattle.fdoca.specs.Basics.{product}
+use Rattle.fdoca.specs.Basics.{if_then_else_, product}
 use Rattle.fdoca.specs.FieldType.{FieldType, typeOf}
 use Rattle.fdoca.specs.Triplet.{idOf, codeOf, extentsOf}
 use Rattle.fdoca.specs.Unfolding.{fieldOf}
 use Rattle.plans.specs.Plan.{entryOf, Proper}
 use Rattle.plans.specs.Tied.{lowerOf}
 
+-- The parts of a plan's entry that the two bytes of a size make, by the layout's number: its length in bytes, and the layout's number with the
+-- digits' part.
+unfoldable pub lengthPart : (layout a b : ℕ) → ℕ
+lengthPart layout a b = if eqb layout 4 then a / 2 + 1 else a * 256 + b
+
+unfoldable pub layoutPart : (layout a b : ℕ) → ℕ
+layoutPart layout a b = if eqb layout 4 then 4 * (a % 2 + 2 * b) else layout
+
 -- The plan's entry for the field of an SDA's bytes t.
 pub record EntryOf (t : List ℕ) (r : ℕ) : Type 0 where
   pub same : (T : FieldType) → typeOf (codeOf t) ≡ some T → r ≡ entryOf (fieldOf T t)
-  pub proper : (T : FieldType) → (idOf t ≡ 0 → ⊥) → Proper (fieldOf T t)
+  pub proper : (T : FieldType) → typeOf (codeOf t) ≡ some T → (idOf t ≡ 0 → ⊥) → Proper (fieldOf T t)
 
 -- The tables s, z, e with an SDA's id entered.
 pub record PutSDA (t : List ℕ) (p : ℕ) (s z e s′ z′ e′ : List ℕ) : Type 0 where

@@ -9,7 +9,7 @@ ghost use Rattle.field_types.specs.Rows.{RowTable};
 ghost use Rattle.field_types.specs.Parameters.{layoutNumber, layoutIf};
 ghost use Rattle.plans.specs.Tied.{lowerOf};
 ghost use Rattle.sdas.specs.Judged.{extentOr1, JudgedSDA};
-ghost use Rattle.sdas.specs.Kept.{EntryOf, PutSDA};
+ghost use Rattle.sdas.specs.Kept.{lengthPart, layoutPart, EntryOf, PutSDA};
 use numbers::wide64;
 
 // The largest count of items.
@@ -122,16 +122,39 @@ pub fn judge_sda(t: &[u8], rows: &[u8; 256], starts: &[u16; 256]) -> Judged
     }
 }
 
+// The length in bytes that an SDA's two bytes of size say: p / 2 + 1 of p digits.
+fn length_part(layout: u8, a: u64, b: u64) -> u64
+    requires { ⌜ (a < 256) × (b < 256) ⌝ }
+    ensures { λ r. ⌜ (r ≡ lengthPart layout a b) × (r < 65536) ⌝ }
+{
+    if layout == field_types::DIGITS {
+        return a / 2 + 1;
+    }
+    a * 256 + b
+}
+
+// The layout's number in a plan, and of digits whether they are odd in number, and the fraction digits.
+fn layout_part(layout: u8, a: u64, b: u64) -> u64
+    requires { ⌜ (a < 256) × (b < 256) ⌝ }
+    ensures { λ r. ⌜ (r ≡ layoutPart layout a b) × (r < 4096) ⌝ }
+{
+    if layout == field_types::DIGITS {
+        return 4 * (a % 2 + 2 * b);
+    }
+    wide64(layout)
+}
+
 // The plan's entry for an SDA's field.
 fn plan_entry(t: &[u8], layout: u8) -> u64
-    requires { ⌜ (goodLengthSDA (now t) ≡ true) × (layout ≡ layoutNumber (codeOf (now t))) ⌝ }
+    requires { ⌜ (goodLengthSDA (now t) ≡ true) × (goodSDA (now t) ≡ true) × (layout ≡ layoutNumber (codeOf (now t))) ⌝ }
     ensures { λ r. ⌜ EntryOf (now (t .entry)) r ⌝ }
 {
-    let mode = wide64(t[9]) + 256 * wide64(layout);
+    let a = wide64(t[10]);
+    let b = wide64(t[11]);
+    let mode = wide64(t[9]) + 256 * layout_part(layout, a, b);
     let code = wide64(t[3]) + 256 * mode;
     let id = wide64(t[2]) + 256 * code;
-    let length = wide64(t[10]) * 256 + wide64(t[11]);
-    length + 65536 * id
+    length_part(layout, a, b) + 65536 * id
 }
 
 // The product by which elements taken is multiplied: 0 without extents.

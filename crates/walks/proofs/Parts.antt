@@ -5,13 +5,13 @@ use mathlib.Core.Path.{_≡_}
 use mathlib.Core.List.{List}
 use native.Mathlib.Omega.{arith}
 use Rattle.fdoca.specs.FieldType.{Layout, fixed, counted, terminated, signedTwo, unsignedOne, ruleOf}
-use Rattle.fdoca.specs.Item.{Field, measure}
-use Rattle.field_types.specs.Rows.{prefixOf, layoutOf, encoded, inNumbers, ruleFor}
-use Rattle.field_types.proofs.Rows.{layout-of-rule}
-use Rattle.plans.specs.Plan.{entryOf, Proper}
+use Rattle.fdoca.specs.Item.{Field, fieldLength, measure}
+use Rattle.field_types.specs.Rows.{prefixOf}
+use Rattle.field_types.proofs.Rows.{layout-back}
+use Rattle.plans.specs.Plan.{digitsPart, entryOf, Proper}
 use Rattle.walks.specs.Entry.{measureEntry}
 
-small : (l : Layout) → prefixOf l < 256
+small : (l : Layout) → prefixOf l < 4
 unfolding prefixOf
 small fixed = omega arith
 small (counted signedTwo) = omega arith
@@ -23,7 +23,7 @@ module _ (f : Field) (p : ℕ) (h : Proper f) where
   abbrev marked : ℕ
   marked = entryOf f + 281474976710656 * p
 
-  pub length-part : marked % 65536 ≡ f .fieldLength
+  pub length-part : marked % 65536 ≡ fieldLength f
   unfolding entryOf
   length-part = omega (arith, h .length-fits)
 
@@ -39,23 +39,23 @@ module _ (f : Field) (p : ℕ) (h : Proper f) where
   unfolding entryOf
   mode-part = omega (arith, h .length-fits, h .id-fits, h .code-fits, h .mode-fits)
 
-  pub layout-part : marked / 1099511627776 % 256 ≡ prefixOf (ruleOf (f .type) .layout)
+  pub layout-part : marked / 1099511627776 % 4 ≡ prefixOf (ruleOf (f .type) .layout)
   unfolding entryOf
   layout-part = omega (arith, h .length-fits, h .id-fits, h .code-fits, h .mode-fits, small (ruleOf (f .type) .layout))
 
+  pub digits-part : marked / 4398046511104 % 64 ≡ digitsPart (f .size)
+  unfolding entryOf
+  digits-part = omega (arith, h .length-fits, h .id-fits, h .code-fits, h .mode-fits, small (ruleOf (f .type) .layout), h .digits-fit)
+
   pub entry-part : marked % 281474976710656 ≡ entryOf f
   unfolding entryOf
-  entry-part = omega (arith, h .length-fits, h .id-fits, h .code-fits, h .mode-fits, small (ruleOf (f .type) .layout))
+  entry-part = omega (arith, h .length-fits, h .id-fits, h .code-fits, h .mode-fits, small (ruleOf (f .type) .layout), h .digits-fit)
 
   pub mark-part : marked / 281474976710656 ≡ p
   unfolding entryOf
-  mark-part = omega (arith, h .length-fits, h .id-fits, h .code-fits, h .mode-fits, small (ruleOf (f .type) .layout))
-
-layout-is : (f : Field) → layoutOf (prefixOf (ruleOf (f .type) .layout)) ≡ ruleOf (f .type) .layout
-unfolding encoded inNumbers ruleFor
-layout-is f = layout-of-rule (f .type)
+  mark-part = omega (arith, h .length-fits, h .id-fits, h .code-fits, h .mode-fits, small (ruleOf (f .type) .layout), h .digits-fit)
 
 -- an entry says to measure its field's item
 pub entry-measures : (f : Field) (p : ℕ) (s : List ℕ) → Proper f → measureEntry (entryOf f + 281474976710656 * p) s ≡ measure f s
 unfolding measureEntry measure
-entry-measures f p s h = simp (length-part f p h, code-part f p h, mode-part f p h, layout-part f p h, layout-is f)
+entry-measures f p s h = simp (length-part f p h, code-part f p h, mode-part f p h, layout-part f p h, layout-back (ruleOf (f .type) .layout))

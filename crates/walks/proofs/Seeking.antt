@@ -39,7 +39,7 @@ module _ (s : List ℕ) (e : ℕ) (n : Note) (h : MarkIn s e n) where
   here : take (length s - e / 281474976710656) (drop (e / 281474976710656) s) ≡ drop (n .start) s
   here = rw start-is (part-to-end s (n .start))
 
-  item-here : measureItem (nullable (e / 16777216 % 256)) (layoutOf (e / 1099511627776 % 256)) (e / 4294967296 % 256) (e % 65536) (take (length s - e / 281474976710656) (drop (e / 281474976710656) s))
+  item-here : measureItem (nullable (e / 16777216 % 256)) (layoutOf (e / 1099511627776 % 4)) (e / 4294967296 % 256) (e % 65536) (take (length s - e / 281474976710656) (drop (e / 281474976710656) s))
       ≡ item (n .isNull) (n .prefix) (n .value) (n .padding)
   unfolding measureEntry markOf
   item-here = rw here (ap (λ y. measureEntry y (drop (n .start) s)) (h .mark) ∙ entry-measures (n .field) (n .start) (drop (n .start) s) (h .proper) ∙ h .stands .measured)
@@ -48,7 +48,7 @@ module _ (s : List ℕ) (e : ℕ) (h : IsMark s e) where
   pub mark-inside : e / 281474976710656 ≤ length s
   mark-inside = rw (start-is s e (h .note) (h .mark-in)) (h .mark-in .stands .starts)
 
-  pub mark-good : Good (nullable (e / 16777216 % 256)) (layoutOf (e / 1099511627776 % 256)) (e % 65536) (take (length s - e / 281474976710656) (drop (e / 281474976710656) s))
+  pub mark-good : Good (nullable (e / 16777216 % 256)) (layoutOf (e / 1099511627776 % 4)) (e % 65536) (take (length s - e / 281474976710656) (drop (e / 281474976710656) s))
   mark-good =
       record {
         mode = e / 4294967296 % 256;
@@ -60,7 +60,7 @@ module _ (s : List ℕ) (e : ℕ) (h : IsMark s e) where
       }
 
 pub mark-found : (s : List ℕ) (e : ℕ) (r : Parts)
-    → PartsOf (nullable (e / 16777216 % 256)) (layoutOf (e / 1099511627776 % 256)) (e % 65536) (take (length s - e / 281474976710656) (drop (e / 281474976710656) s)) r
+    → PartsOf (nullable (e / 16777216 % 256)) (layoutOf (e / 1099511627776 % 4)) (e % 65536) (take (length s - e / 281474976710656) (drop (e / 281474976710656) s)) r
     → FoundBy s e (record { number = 0; place = 0; start = e / 281474976710656; null = r .null; prefix = r .prefix; value = r .value; entry = e % 281474976710656 })
 unfolding foundOf
 mark-found s e r h =

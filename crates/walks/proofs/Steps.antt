@@ -23,8 +23,8 @@ use Rattle.walks.proofs.Going.{long, entry-numbered}
 plain-measures : (e : ℕ) (s : List ℕ) → isPlain e ≡ true → measureEntry e s ≡ measureFixed (e % 65536) s
 unfolding measureEntry measureItem measureValue layoutOf isPlain
 plain-measures e s h =
-    let a : not (leb 128 (e / 16777216 % 256)) ≡ true = and-left (not (leb 128 (e / 16777216 % 256))) (eqb (e / 1099511627776 % 256) 0) h in
-    let b : eqb (e / 1099511627776 % 256) 0 ≡ true = and-right (not (leb 128 (e / 16777216 % 256))) (eqb (e / 1099511627776 % 256) 0) h in
+    let a : not (leb 128 (e / 16777216 % 256)) ≡ true = and-left (not (leb 128 (e / 16777216 % 256))) (eqb (e / 1099511627776 % 4) 0) h in
+    let b : eqb (e / 1099511627776 % 4) 0 ≡ true = and-right (not (leb 128 (e / 16777216 % 256))) (eqb (e / 1099511627776 % 4) 0) h in
     let c : leb 128 (e / 16777216 % 256) ≡ false = go (leb 128 (e / 16777216 % 256)) a in
     simp (c, b)
   where

@@ -10,11 +10,11 @@ use Rattle.fdoca.specs.Item.{Measured, refused, item, measureItem}
 use Rattle.field_types.specs.Rows.{layoutOf}
 
 unfoldable pub measureEntry : ℕ → List ℕ → Measured
-measureEntry e s = measureItem (nullable (e / 16777216 % 256)) (layoutOf (e / 1099511627776 % 256)) (e / 4294967296 % 256) (e % 65536) s
+measureEntry e s = measureItem (nullable (e / 16777216 % 256)) (layoutOf (e / 1099511627776 % 4)) (e / 4294967296 % 256) (e % 65536) s
 
 -- The item is F bytes without a null indicator: not a nullable form, and the layout's number 0.
 unfoldable pub isPlain : ℕ → Bool
-isPlain e = not (nullable (e / 16777216 % 256)) && eqb (e / 1099511627776 % 256) 0
+isPlain e = not (nullable (e / 16777216 % 256)) && eqb (e / 1099511627776 % 4) 0
 
 -- An item's length, or 65,536 and the number of a refusal.
 unfoldable pub stepOf : Measured → ℕ

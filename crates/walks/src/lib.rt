@@ -28,7 +28,8 @@ pub struct Found {
     pub entry: u64,
 }
 
-// Where the parts of an entry begin, behind the field length: id, type code, mode, the layout's number, and the position that a marked entry holds.
+// Where the parts of an entry begin, behind the field length: id, type code, mode, the layout's number with the digits' part, and the position that a
+// marked entry holds.
 const ID: u64 = 65536;
 
 const CODE: u64 = 16777216;
@@ -48,7 +49,7 @@ pub fn item_at(entry: u64, data: &[u8], at: usize) -> terminated::Measured
     ensures { λ r. ⌜ (r ≡ answer (measureEntry entry (drop at (now («data» .entry))))) × (at + (r .prefix + r .value + r .padding) ≤ length (now («data» .entry))) ⌝ }
 {
     let nullable = 128 <= entry / CODE % 256;
-    let layout = (entry / LAYOUT % 256) as u8;
+    let layout = (entry / LAYOUT % 4) as u8;
     let mode = (entry / MODE % 256) as u8;
     let f = (entry % ID) as usize;
     items::measure(&data[at..], nullable, layout, mode, f)
@@ -72,7 +73,7 @@ fn plain(entry: u64) -> bool
     if 128 <= entry / CODE % 256 {
         return false;
     }
-    entry / LAYOUT % 256 == 0
+    entry / LAYOUT % 4 == 0
 }
 
 // The length of the item at a place of the data, or REFUSED and the number of its refusal.
@@ -163,7 +164,7 @@ fn item_of(marked: u64, data: &[u8]) -> Found
 {
     let start = (marked / POSITION) as usize;
     let nullable = 128 <= marked / CODE % 256;
-    let layout = (marked / LAYOUT % 256) as u8;
+    let layout = (marked / LAYOUT % 4) as u8;
     let f = (marked % ID) as usize;
     let parts = items::good_parts(&data[start..], nullable, layout, f);
     Found {

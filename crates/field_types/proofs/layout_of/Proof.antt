@@ -1,9 +1,9 @@
 -- `field_types::layout_of` meets its contract.
 -- Assumes nothing.
-use borrow.Author.Needs.{needs}
 use borrow.Author.Tests.{not-true, not-false}
 use Rattle.field_types.proofs.Rows.{row-read}
 use Rattle.field_types.proofs.Allowed.{no-layout, not-eight, unused-set, by-rule, by-layout}
+use borrow.Author.Needs.{needs}
 use Rattle.field_types.proofs.layout_of.Statement.{statement}
 use Rattle.field_types.proofs.layout_of.Tie as tie
 
@@ -34,14 +34,17 @@ pair-requires c κs = search needs
 shared-slice-read-rule-allows : tie.Need-shared-slice-read-rule-allows
 shared-slice-read-rule-allows c = search needs
 
-shared-slice-read-pair-3 : tie.Need-shared-slice-read-pair-3
-shared-slice-read-pair-3 c = search needs
+shared-slice-read-wide : tie.Need-shared-slice-read-wide
+shared-slice-read-wide c = search needs
 
-shared-slice-read-pair-4 : tie.Need-shared-slice-read-pair-4
-shared-slice-read-pair-4 c = search needs
+wide-requires : tie.Need-wide-requires
+wide-requires c κs = search needs
 
-pair-requires-2 : tie.Need-pair-requires-2
-pair-requires-2 c κs = search needs
+shared-slice-read-wide-2 : tie.Need-shared-slice-read-wide-2
+shared-slice-read-wide-2 c = search needs
+
+wide-requires-2 : tie.Need-wide-requires-2
+wide-requires-2 c κs = search needs
 
 rule-allows-requires : tie.Need-rule-allows-requires
 rule-allows-requires c κs = search needs
@@ -65,9 +68,10 @@ layout-of-spec =
     shared-slice-read-pair-2
     pair-requires
     shared-slice-read-rule-allows
-    shared-slice-read-pair-3
-    shared-slice-read-pair-4
-    pair-requires-2
+    shared-slice-read-wide
+    wide-requires
+    shared-slice-read-wide-2
+    wide-requires-2
     rule-allows-requires
     returns-3
     returns-4)
