@@ -1,5 +1,7 @@
 pub mod Plans
 pub mod Parts
 pub mod Calling
+pub mod Items
 pub mod Wholes
 pub mod Lending
+pub mod Decimals

@@ -4,7 +4,7 @@ use mathlib.Core.Path.{_≡_, refl, sym, ap, _∙_}
 use Prim.Native.Nat.{ℕ, _+_, _-_, _/_, _%_, _≤_, _<_}
 use native.Mathlib.Omega.{arith}
 use native.Mathlib.Nat.{add-sub-cancel-left}
-use mathlib.Core.Bool.{Bool, true, false}
+use mathlib.Core.Bool.{Bool, true, false, true≢false}
 use mathlib.Core.List.{List, [], _∷_}
 use mathlib.Core.Option.{none, some}
 use lib.Dec.{eqb}
@@ -14,33 +14,32 @@ use mir.Syntax.{w64}
 use mir.Val.{SFits, toZ, ofZ}
 use mir.ValLaws.{toZ-ofZ}
 use borrow.Author.Tests.{eqb-true}
-use Rattle.fdoca.specs.declared.State.{State}
 use Rattle.fdoca.specs.declared.Whole.{Whole}
-use Rattle.fdoca.specs.Basics.{if_then_else_, elem, Result, refuse, ok, _>>=_, the}
-use Rattle.fdoca.specs.FieldType.{FieldType, fixedBytes, variableBytes, terminatedBytes, shortBytes, integer, reversedInteger, hexFloat, reversedFloat, binaryFloat, fixed, allows, typeOf, ruleOf}
+use Rattle.fdoca.specs.Basics.{if_then_else_, Result, refuse, ok, _>>=_, the}
+use Rattle.fdoca.specs.FieldType.{FieldType, fixedBytes, variableBytes, terminatedBytes, shortBytes, integer, reversedInteger, packedDecimal, hexFloat, reversedFloat, binaryFloat, Size, bytes, digits, inBytes, fixed, oneOf, allows, typeOf, ruleOf}
 use Rattle.fdoca.specs.Walk.{Note}
-use Rattle.fdoca.specs.Calls.{itemAt, valueOf, wholeOf, wholeNumber, wholeAnswer, stateOf}
-use Rattle.fdoca.proofs.Fields.{GoodNote, item-good}
-use Rattle.fdoca.proofs.Numbers.{item-number}
+use Rattle.fdoca.specs.Calls.{itemAt, valueOf, wholeOf, wholeNumber, wholeAnswer}
 use Rattle.field_types.specs.Rows.{rowOf}
 use Rattle.numbers.specs.Whole.{wholeUpTo8}
 use Rattle.numbers.proofs.Whole.{read-integer, read-reversed}
 use Rattle.walks.specs.declared.Found.{Found}
 use Rattle.walks.specs.Finding.{foundOf}
 use Rattle.lookups.specs.Answer.{FoundAs}
+use Rattle.blocks.proofs.Items.{TheItem, the-item, type-row}
 
 abbrev wholly : ℤ → Whole
 wholly z = record { number = 0; place = 0; null = false; value = z }
 
 -- the field lengths of whole numbers
-eight : (F : ℕ) → elem F (2 ∷ 4 ∷ 8 ∷ []) ≡ true → F ≤ 8
-eight F h = go (eqb F 2) (eqb F 4) (eqb F 8) refl refl refl h
+eight : (z : Size) → allows (oneOf (2 ∷ 4 ∷ 8 ∷ [])) z ≡ true → inBytes z ≤ 8
+eight (digits p q) h = absurd (true≢false (sym h))
+eight (bytes F) h = go (eqb F 2) (eqb F 4) (eqb F 8) refl refl refl h
   where
     go : (a b c : Bool) → eqb F 2 ≡ a → eqb F 4 ≡ b → eqb F 8 ≡ c → (if a then true else if b then true else if c then true else false) ≡ true → F ≤ 8
     go true b c ea eb ec h = let q : F ≡ 2 = eqb-true F 2 ea in omega arith
     go false true c ea eb ec h = let q : F ≡ 4 = eqb-true F 4 eb in omega arith
     go false false true ea eb ec h = let q : F ≡ 8 = eqb-true F 8 ec in omega arith
-    go false false false ea eb ec h = absurd (let z : _≡_ {A = ℕ} 0 1 = cc in let w : ⊥ = omega arith in w)
+    go false false false ea eb ec h = absurd (true≢false (sym h))
 
 -- a type by its row
 module _ (bs : List ℕ) where
@@ -52,6 +51,7 @@ module _ (bs : List ℕ) where
   low-row shortBytes h = refl
   low-row integer h = absurd (let w : ⊥ = omega arith in w)
   low-row reversedInteger h = absurd (let w : ⊥ = omega arith in w)
+  low-row packedDecimal h = refl
   low-row hexFloat h = refl
   low-row reversedFloat h = refl
   low-row binaryFloat h = refl
@@ -64,13 +64,14 @@ module _ (bs : List ℕ) where
   high-row shortBytes h = refl
   high-row integer h = absurd (let w : ⊥ = omega arith in w)
   high-row reversedInteger h = absurd (let w : ⊥ = omega arith in w)
+  high-row packedDecimal h = refl
   high-row hexFloat h = refl
   high-row reversedFloat h = refl
   high-row binaryFloat h = refl
 
 -- a whole number of up to eight bytes is what its row says
-whole-row : (T : FieldType) (F : ℕ) (bs : List ℕ) → 5 ≤ rowOf (some T) → rowOf (some T) ≤ 6 → allows (ruleOf T .lengths) F ≡ true
-    → (ruleOf T .layout ≡ fixed → length bs ≤ F) → wholeOf T bs ≡ some (wholeUpTo8 bs (eqb (rowOf (some T)) 6))
+whole-row : (T : FieldType) (F : Size) (bs : List ℕ) → 5 ≤ rowOf (some T) → rowOf (some T) ≤ 6 → allows (ruleOf T .sizes) F ≡ true
+    → (ruleOf T .layout ≡ fixed → length bs ≤ inBytes F) → wholeOf T bs ≡ some (wholeUpTo8 bs (eqb (rowOf (some T)) 6))
 unfolding rowOf ruleOf
 whole-row integer F bs l h a n = let k : length bs ≤ 8 = omega (arith, eight F a, n refl) in read-integer bs k
 whole-row reversedInteger F bs l h a n = let k : length bs ≤ 8 = omega (arith, eight F a, n refl) in read-reversed bs k
@@ -78,6 +79,7 @@ whole-row fixedBytes F bs l h a n = absurd (let w : ⊥ = omega arith in w)
 whole-row variableBytes F bs l h a n = absurd (let w : ⊥ = omega arith in w)
 whole-row terminatedBytes F bs l h a n = absurd (let w : ⊥ = omega arith in w)
 whole-row shortBytes F bs l h a n = absurd (let w : ⊥ = omega arith in w)
+whole-row packedDecimal F bs l h a n = absurd (let w : ⊥ = omega arith in w)
 whole-row hexFloat F bs l h a n = absurd (let w : ⊥ = omega arith in w)
 whole-row reversedFloat F bs l h a n = absurd (let w : ⊥ = omega arith in w)
 whole-row binaryFloat F bs l h a n = absurd (let w : ⊥ = omega arith in w)
@@ -92,40 +94,12 @@ module _ (d x : List ℕ) (i : ℕ) (f : Found) (w : FoundAs (itemAt d x i) x f)
       go (refuse n p) e = rw e
       go (ok n) e = absurd (h (rw e))
 
-  -- the item that was found
-  record TheItem : Type 0 where
-    note : Note
-    is-item : itemAt d x i ≡ ok note
-    start-is : f .start ≡ note .start
-    null-is : f .null ≡ note .isNull
-    code-is : f .entry / 16777216 % 256 ≡ note .field .code
-    value-is : take (f .value) (drop (f .start + f .prefix) x) ≡ valueOf x note
-    good : GoodNote note
-
-  the-item : f .number ≡ 0 → TheItem
-  unfolding foundOf
-  the-item h = go (itemAt d x i) refl (w .found) (w .state)
-    where
-      go : (r : Result Note) → itemAt d x i ≡ r → f ≡ foundOf r
-          → record { number = f .number; place = f .place; null = f .null; code = f .entry / 16777216 % 256; length = f .value } ≡ stateOf r → TheItem
-      go (refuse n p) e a b = absurd (let z : n ≡ 0 = rw a at h in let k : ⊥ = omega (arith, item-number d x i n p e) in k)
-      go (ok n) e a b =
-          record {
-            note = n;
-            is-item = e;
-            start-is = rw a;
-            null-is = rw a;
-            code-is = ap (λ (s : State). s .code) b;
-            value-is = rw a;
-            good = item-good d x i n e;
-          }
-
   module _ (h : f .number ≡ 0) (row : ℕ) (er : row ≡ rowOf (typeOf (f .entry / 16777216 % 256))) where
-    abbrev t : TheItem
-    t = the-item h
+    abbrev t : TheItem d x i f
+    t = the-item d x i f w h
 
     row-is : row ≡ rowOf (some (t .note .field .type))
-    row-is = er ∙ ap (λ c. rowOf (typeOf c)) (t .code-is) ∙ ap rowOf (t .good .field-good .typed)
+    row-is = type-row d x i f w h row er
 
     not-one : (r : Whole) → wholeOf (t .note .field .type) (valueOf x (t .note)) ≡ none → r ≡ wholeAnswer (refuse 18 (f .start)) → r ≡ wholeAnswer (wholeNumber d x i)
     unfolding wholeNumber
@@ -143,8 +117,8 @@ module _ (d x : List ℕ) (i : ℕ) (f : Found) (w : FoundAs (itemAt d x i) x f)
       is-whole : wholeOf (t .note .field .type) (valueOf x (t .note)) ≡ some (wholeUpTo8 (valueOf x (t .note)) (eqb row 6))
       is-whole =
           rw row-is
-          (whole-row (t .note .field .type) (t .note .field .fieldLength) (valueOf x (t .note)) (rw row-is at least) (rw row-is at most) (t .good .field-good .allowed)
-          (λ q. omega (arith, t .good .no-longer q, length-take (t .note .value) (drop (t .note .start + t .note .prefix) x))))
+          (whole-row (t .note .field .type) (t .note .field .size) (valueOf x (t .note)) (rw row-is at least) (rw row-is at most) (t .good .field-good .allowed)
+          (λ q. omega (arith, t .good .filled q .0, length-take (t .note .value) (drop (t .note .start + t .note .prefix) x))))
 
       pub whole-null : f .null ≡ true → record { number = 0; place = 0; null = true; value = pos 0 } ≡ wholeAnswer (wholeNumber d x i)
       unfolding wholeNumber

@@ -1,15 +1,17 @@
-// The calls on a descriptor and its data: list the items, tell an item's state, lend its value, read a whole number.
+// The calls on a descriptor and its data: list the items, tell an item's state, lend its value, read a whole number or a packed decimal.
 ghost use mathlib.Core.Path.{_≡_};
 ghost use Prim.Native.Nat.{_+_, _*_, _≤_};
 ghost use lib.ListN.{length};
-ghost use Rattle.fdoca.specs.Basics.{refuse};
+ghost use Rattle.fdoca.specs.Basics.{refuse, ok};
 ghost use Rattle.fdoca.specs.Unfolding.{unfolded};
 ghost use Rattle.fdoca.specs.Calls as calls;
-ghost use Rattle.fdoca.specs.Calls.{itemAt, stateOf, wholeNumber, wholeAnswer};
+ghost use Rattle.fdoca.specs.Calls.{itemAt, stateOf, wholeNumber, wholeAnswer, decimalAnswer};
 ghost use Rattle.descriptors.specs.Holds.{Ready};
 ghost use Rattle.blocks.specs.Answers.{itemsInto, ListedAs};
 ghost use Rattle.blocks.specs.Lending.{lentAt, LentPart};
+ghost use Rattle.blocks.specs.Packing.{Packing, readAt};
 use descriptors::Examined;
+use fdoca::Decimal;
 use fdoca::Listed;
 use fdoca::State;
 use fdoca::Whole;
@@ -192,4 +194,71 @@ pub fn whole_number(descriptor: &[u8], data: &[u8], item: u32) -> Whole
         null: false,
         value: numbers::read(&data[from..to], row == 6),
     }
+}
+
+// Where an entry's part of digits begins: whether they are odd in number, then the fraction digits.
+const DIGITS: u64 = 4398046511104;
+
+fn no_decimal(number: u32, place: usize) -> Decimal
+    requires { ⌜ place ≤ 4294967295 ⌝ }
+    ensures { λ r. ⌜ r ≡ decimalAnswer (refuse number place) ⌝ }
+{
+    Decimal {
+        number: number,
+        place: place as u32,
+        null: false,
+        value: 0,
+        fraction: 0,
+    }
+}
+
+fn decimal(null: bool, value: i64, fraction: u8) -> Decimal
+    ensures { λ r. ⌜ r ≡ decimalAnswer (ok (null, value, fraction)) ⌝ }
+{
+    Decimal {
+        number: 0,
+        place: 0,
+        null: null,
+        value: value,
+        fraction: fraction,
+    }
+}
+
+// The packed decimal of `size` bytes from a place of the data on; `digits` tells whether its digits are odd in number, and its fraction digits.
+fn unpacked(data: &[u8], from: usize, size: usize, digits: u64, start: usize) -> Decimal
+    requires { ⌜ Packing (now «data») from size digits start ⌝ }
+    ensures { λ r. ⌜ r ≡ decimalAnswer (readAt (now («data» .entry)) from size digits start) ⌝ }
+{
+    let to = from + size;
+    let p = 2 * (size - 1) + (digits % 2) as usize;
+    let read = numbers::packed(&data[from..to], p);
+    if !read.valid {
+        return no_decimal(20, start);
+    }
+    decimal(false, read.value, (digits / 2) as u8)
+}
+
+// Reads a packed item: the whole number of its digits, and how many are fraction digits; a null is 0 with its null mark.
+pub fn packed(descriptor: &[u8], data: &[u8], item: u32) -> Decimal
+    ensures { λ r. ⌜ r ≡ decimalAnswer (calls.packed (now (descriptor .entry)) (now («data» .entry)) item) ⌝ }
+{
+    let found = lookups::find(descriptor, data, item);
+    if found.number != 0 {
+        return no_decimal(found.number, found.place as usize);
+    }
+    let row = field_types::row_of((found.entry / 16777216 % 256) as u8);
+    if row != 7 {
+        return no_decimal(18, found.start);
+    }
+    let digits = found.entry / DIGITS % 64;
+    if found.null {
+        return decimal(true, 0, (digits / 2) as u8);
+    }
+    unpacked(
+        data,
+        found.start + found.prefix,
+        found.value,
+        digits,
+        found.start,
+    )
 }

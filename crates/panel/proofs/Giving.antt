@@ -13,13 +13,14 @@ use Rattle.fdoca.specs.declared.Checked.{Checked}
 use Rattle.fdoca.specs.declared.Listed.{Listed}
 use Rattle.fdoca.specs.declared.State.{State}
 use Rattle.fdoca.specs.declared.Whole.{Whole}
+use Rattle.fdoca.specs.declared.Decimal.{Decimal}
 use Rattle.fdoca.specs.Basics.{Result}
 use Rattle.fdoca.specs.Walk.{Note}
-use Rattle.fdoca.specs.Calls.{checked, stateOf, wholeAnswer}
+use Rattle.fdoca.specs.Calls.{checked, stateOf, wholeAnswer, decimalAnswer}
 use Rattle.blocks.specs.declared.Lent.{Lent}
 use Rattle.blocks.specs.Answers.{ListedAs}
 use Rattle.blocks.specs.Lending.{lentAt}
-use Rattle.panel.specs.Given.{CheckGiven, ListGiven, mark, StateGiven, LentGiven, WholeGiven}
+use Rattle.panel.specs.Given.{CheckGiven, ListGiven, mark, StateGiven, LentGiven, WholeGiven, PackedGiven}
 
 pub check-given : {x : Result ℕ} {r : Checked} → r ≡ checked x → CheckGiven x (r .number) (r .place) (r .items)
 check-given e =
@@ -69,4 +70,15 @@ whole-given {r = r} e fits =
       placed = ap (λ (a : Whole). a .place) e;
       marked = as-number (r .null) ∙ ap (λ (a : Whole). mark (a .null)) e;
       read = toZ-ofZ fits ∙ ap (λ (a : Whole). a .value) e;
+    }
+
+pub packed-given : {x : Result (Bool × ℤ × ℕ)} {r : Decimal} → r ≡ decimalAnswer x → SFits w64 (r .value)
+    → PackedGiven x (r .number) (r .place) (boolByte (r .null)) (toZ w64 (ofZ w64 (r .value))) (r .fraction)
+packed-given {r = r} e fits =
+    record {
+      returned = ap (λ (a : Decimal). a .number) e;
+      placed = ap (λ (a : Decimal). a .place) e;
+      marked = as-number (r .null) ∙ ap (λ (a : Decimal). mark (a .null)) e;
+      read = toZ-ofZ fits ∙ ap (λ (a : Decimal). a .value) e;
+      behind-the-point = ap (λ (a : Decimal). a .fraction) e;
     }

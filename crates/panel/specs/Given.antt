@@ -8,7 +8,7 @@ use lib.IntN.{ℤ}
 use lib.ListN.{length}
 use Rattle.fdoca.specs.Basics.{if_then_else_, Result}
 use Rattle.fdoca.specs.Walk.{Note}
-use Rattle.fdoca.specs.Calls.{checked, listed, entriesAfter, stateOf, wholeAnswer}
+use Rattle.fdoca.specs.Calls.{checked, listed, entriesAfter, stateOf, wholeAnswer, decimalAnswer}
 use Rattle.blocks.specs.Lending.{lentAt}
 
 -- The check, which gives x.
@@ -49,3 +49,11 @@ pub record WholeGiven (x : Result (Bool × ℤ)) (number place null : ℕ) (valu
   pub placed : place ≡ wholeAnswer x .place
   pub marked : null ≡ mark (wholeAnswer x .null)
   pub read : value ≡ wholeAnswer x .value
+
+-- The read of a packed item, which gives x.
+pub record PackedGiven (x : Result (Bool × ℤ × ℕ)) (number place null : ℕ) (value : ℤ) (fraction : ℕ) : Type 0 where
+  pub returned : number ≡ decimalAnswer x .number
+  pub placed : place ≡ decimalAnswer x .place
+  pub marked : null ≡ mark (decimalAnswer x .null)
+  pub read : value ≡ decimalAnswer x .value
+  pub behind-the-point : fraction ≡ decimalAnswer x .fraction

@@ -2,7 +2,7 @@
 // result is written where the caller lends room for it, also on a refusal.
 ghost use Rattle.fdoca.specs.Check.{check};
 ghost use Rattle.fdoca.specs.Calls as calls;
-ghost use Rattle.panel.specs.Given.{CheckGiven, ListGiven, StateGiven, LentGiven, WholeGiven};
+ghost use Rattle.panel.specs.Given.{CheckGiven, ListGiven, StateGiven, LentGiven, WholeGiven, PackedGiven};
 
 // Checks a descriptor: how many items it describes.
 #[no_mangle]
@@ -88,4 +88,26 @@ pub extern "C" fn fdoca_whole_number(
     let read = whole.value;
     *value = read;
     whole.number
+}
+
+// Reads a packed item: the whole number of its digits, and how many are fraction digits; a null is 0 with the null mark 1.
+#[no_mangle]
+pub extern "C" fn fdoca_packed(
+    descriptor: &[u8],
+    data: &[u8],
+    item: u32,
+    place: &mut u32,
+    is_null: &mut u32,
+    value: &mut i64,
+    fraction_digits: &mut u32,
+) -> u32
+    ensures { λ r. ⌜ PackedGiven (calls.packed (now (descriptor .entry)) (now («data» .entry)) item) r (now (place .exit)) (now («is_null» .exit)) (now (value .exit)) (now («fraction_digits» .exit)) ⌝ }
+{
+    let decimal = blocks::packed(descriptor, data, item);
+    *place = decimal.place;
+    *is_null = decimal.null as u32;
+    let whole = decimal.value;
+    *value = whole;
+    *fraction_digits = decimal.fraction as u32;
+    decimal.number
 }
