@@ -53,6 +53,18 @@ extern "C" {
         is_null: &mut u32,
         value: &mut i64,
     ) -> u32;
+
+    fn fdoca_packed(
+        descriptor: *const u8,
+        descriptor_length: usize,
+        data: *const u8,
+        data_length: usize,
+        item: u32,
+        place: &mut u32,
+        is_null: &mut u32,
+        value: &mut i64,
+        fraction_digits: &mut u32,
+    ) -> u32;
 }
 
 /// What a call gives: number 0 and place 0 if accepted, zeros as results if refused.
@@ -144,8 +156,27 @@ impl From<reader::Whole> for Whole {
     }
 }
 
+/// A packed decimal item. The null mark is 0 or 1.
+#[derive(Clone, Copy, Debug, Default, PartialEq, Eq)]
+pub struct Packed {
+    pub is_null: u32,
+    pub value: i64,
+    pub fraction_digits: u32,
+}
+
+impl From<reader::Packed> for Packed {
+    fn from(packed: reader::Packed) -> Packed {
+        Packed {
+            is_null: packed.is_null.into(),
+            value: packed.value,
+            fraction_digits: packed.fraction_digits,
+        }
+    }
+}
+
 /// What a result holds before the call, so that one that is not written is seen.
 const UNWRITTEN: u32 = 0xDEAD_BEEF;
+const UNWRITTEN_VALUE: i64 = i64::MIN + 1;
 
 pub fn check(descriptor: &[u8]) -> Answer<u32> {
     let (mut place, mut results) = (UNWRITTEN, UNWRITTEN);
@@ -240,7 +271,7 @@ pub fn whole_number(descriptor: &[u8], data: &[u8], item: u32) -> Answer<Whole> 
     let mut place = UNWRITTEN;
     let mut results = Whole {
         is_null: UNWRITTEN,
-        value: i64::MIN + 1,
+        value: UNWRITTEN_VALUE,
     };
     let number = unsafe {
         fdoca_whole_number(
@@ -252,6 +283,33 @@ pub fn whole_number(descriptor: &[u8], data: &[u8], item: u32) -> Answer<Whole> 
             &mut place,
             &mut results.is_null,
             &mut results.value,
+        )
+    };
+    Answer {
+        number,
+        place,
+        results,
+    }
+}
+
+pub fn packed(descriptor: &[u8], data: &[u8], item: u32) -> Answer<Packed> {
+    let mut place = UNWRITTEN;
+    let mut results = Packed {
+        is_null: UNWRITTEN,
+        value: UNWRITTEN_VALUE,
+        fraction_digits: UNWRITTEN,
+    };
+    let number = unsafe {
+        fdoca_packed(
+            descriptor.as_ptr(),
+            descriptor.len(),
+            data.as_ptr(),
+            data.len(),
+            item,
+            &mut place,
+            &mut results.is_null,
+            &mut results.value,
+            &mut results.fraction_digits,
         )
     };
     Answer {

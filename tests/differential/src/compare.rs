@@ -4,19 +4,17 @@ use std::fmt::Debug;
 
 use differential::answers::{self, Part};
 use reader::generate::Random;
+use reader::Counts;
 
 /// How many mismatches are printed.
 const PRINTED: u64 = 10;
-
-/// The numbers 0 to 18.
-pub const NUMBERS: usize = 19;
 
 /// All cases so far.
 pub struct Comparison {
     pub cases: u64,
     pub mismatches: u64,
     /// How often the calls have given each number.
-    pub numbers: [u64; NUMBERS],
+    pub numbers: Counts,
     pub random: Random,
 }
 
@@ -25,7 +23,7 @@ impl Comparison {
         Comparison {
             cases: 0,
             mismatches: 0,
-            numbers: [0; NUMBERS],
+            numbers: Counts::default(),
             random: Random::new(seed),
         }
     }
@@ -93,6 +91,11 @@ impl Comparison {
         let expected = reader::whole_number(descriptor, data, item);
         self.agree(block, &format!("whole {item}"), whole, expected.into());
         self.met(whole.number);
+
+        let packed = answers::packed(descriptor, data, item);
+        let expected = reader::packed(descriptor, data, item);
+        self.agree(block, &format!("packed {item}"), packed, expected.into());
+        self.met(packed.number);
     }
 
     fn agree<T: PartialEq + Debug>(&mut self, block: Block, call: &str, library: T, reader: T) {
@@ -106,9 +109,8 @@ impl Comparison {
     }
 
     fn met(&mut self, number: u32) {
-        match self.numbers.get_mut(number as usize) {
-            Some(times) => *times += 1,
-            None => self.fail(&format!("number {number}")),
+        if self.numbers.add(number).is_none() {
+            self.fail(&format!("number {number}"));
         }
     }
 }

@@ -3,6 +3,7 @@
 mod descriptor_bytes;
 mod forms;
 mod limits;
+mod packed;
 
 use reader::generate::{Case, Generator};
 
@@ -13,7 +14,7 @@ pub struct Group {
     pub run: fn(&mut Comparison),
 }
 
-pub const GROUPS: [Group; 9] = [
+pub const GROUPS: [Group; 11] = [
     Group {
         name: "valid blocks of every form",
         run: forms::every_form,
@@ -45,6 +46,14 @@ pub const GROUPS: [Group; 9] = [
     Group {
         name: "sizes at and over their limits",
         run: limits::sizes,
+    },
+    Group {
+        name: "every number of digits and fraction digits",
+        run: packed::every_parameter,
+    },
+    Group {
+        name: "every half-byte of packed decimals",
+        run: packed::every_half_byte,
     },
     Group {
         name: "random bytes",

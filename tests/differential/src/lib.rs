@@ -37,6 +37,15 @@ pub fn whole_number(descriptor: &[u8], data: &[u8], item: u32) -> Result<Whole, 
     })
 }
 
+pub fn packed(descriptor: &[u8], data: &[u8], item: u32) -> Result<Packed, Refusal> {
+    let packed = answers::packed(descriptor, data, item).accepted()?;
+    Ok(Packed {
+        is_null: is_marked(packed.is_null),
+        value: packed.value,
+        fraction_digits: packed.fraction_digits,
+    })
+}
+
 fn is_marked(mark: u32) -> bool {
     assert!(mark <= 1, "null mark {mark}");
     mark == 1

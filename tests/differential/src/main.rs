@@ -51,8 +51,8 @@ fn run(goal: Goal) -> ExitCode {
             go_on(comparison, &goal, start)
         });
     }
-    results.group(&mut comparison, "every number from 0 to 18", |comparison| {
-        if comparison.numbers.contains(&0) {
+    results.group(&mut comparison, "every number of the calls", |comparison| {
+        if comparison.numbers.fewest() == 0 {
             comparison.fail("a number did not occur");
         }
     });
@@ -61,7 +61,7 @@ fn run(goal: Goal) -> ExitCode {
         comparison.cases,
         start.elapsed().as_secs_f64()
     );
-    for (number, times) in comparison.numbers.iter().enumerate() {
+    for (number, times) in comparison.numbers.iter() {
         println!("number {number:2}: {times}");
     }
     println!("{} passed, {} failed", results.passed, results.failed);

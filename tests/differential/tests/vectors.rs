@@ -10,5 +10,7 @@ mod environment;
 mod examples;
 #[path = "../../reader/tests/vectors/limits.rs"]
 mod limits;
+#[path = "../../reader/tests/vectors/packed.rs"]
+mod packed;
 #[path = "../../reader/tests/vectors/support.rs"]
 mod support;

@@ -1,7 +1,7 @@
 //! Everything that the calls answer for one case.
 
 use crate::generate::Case;
-use crate::{check, lend, list, state, whole_number, Refusal, State, Whole};
+use crate::{check, lend, list, packed, state, whole_number, Packed, Refusal, State, Whole};
 
 #[derive(Clone, Debug, PartialEq, Eq)]
 pub struct Answers {
@@ -11,6 +11,7 @@ pub struct Answers {
     pub state: Result<State, Refusal>,
     pub lent: Vec<u8>,
     pub whole: Result<Whole, Refusal>,
+    pub packed: Result<Packed, Refusal>,
 }
 
 impl Answers {
@@ -24,23 +25,27 @@ impl Answers {
             state: state(descriptor, data, case.item),
             lent: lend(descriptor, data, case.item).to_vec(),
             whole: whole_number(descriptor, data, case.item),
+            packed: packed(descriptor, data, case.item),
         }
     }
 
-    /// The numbers of check, list, state and whole-number read, 0 where accepted.
-    pub fn numbers(&self) -> [u32; 4] {
+    /// The numbers of check, list, state, whole-number and packed decimal read, 0
+    /// where accepted.
+    pub fn numbers(&self) -> [u32; 5] {
         [
             number(&self.check),
             number(&self.list),
             number(&self.state),
             number(&self.whole),
+            number(&self.packed),
         ]
     }
 
     /// All answers as one list of numbers. Each call gives its number and place,
     /// then its results, which are zeros on a refusal; the list and the lent
     /// bytes have their length before them; a whole number is its null mark,
-    /// its sign and its magnitude, which is `-value - 1` for a negative value.
+    /// its sign and its magnitude, which is `-value - 1` for a negative value;
+    /// a packed decimal has its fraction digits behind the same.
     pub fn flat(&self) -> Vec<u64> {
         let mut flat = Vec::new();
         flat.extend(call(&self.check, |&count| [count.into()]));
@@ -57,16 +62,22 @@ impl Answers {
         flat.push(self.lent.len() as u64);
         flat.extend(self.lent.iter().map(|&byte| u64::from(byte)));
         flat.extend(call(&self.whole, |whole| {
-            let is_negative = whole.value < 0;
-            let magnitude = if is_negative {
-                !whole.value
-            } else {
-                whole.value
-            };
-            [whole.is_null.into(), is_negative.into(), magnitude as u64]
+            let [sign, magnitude] = sign_and_magnitude(whole.value);
+            [whole.is_null.into(), sign, magnitude]
+        }));
+        flat.extend(call(&self.packed, |packed| {
+            let [sign, magnitude] = sign_and_magnitude(packed.value);
+            let fraction_digits = packed.fraction_digits.into();
+            [packed.is_null.into(), sign, magnitude, fraction_digits]
         }));
         flat
     }
+}
+
+fn sign_and_magnitude(value: i64) -> [u64; 2] {
+    let is_negative = value < 0;
+    let magnitude = if is_negative { !value } else { value };
+    [is_negative.into(), magnitude as u64]
 }
 
 fn number<T>(answer: &Result<T, Refusal>) -> u32 {

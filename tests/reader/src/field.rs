@@ -11,11 +11,15 @@ pub(crate) enum Form {
     NullTerminated,
     /// A one-byte unsigned length, then bytes.
     Short,
+    /// Decimal digits and a sign, two half-bytes a byte.
+    Packed,
 }
 
 enum FieldLengths {
     UpTo(u16),
     OneOf(&'static [u16]),
+    /// In place of F: digits from 1 to this number, and at most as many fraction digits.
+    Digits(u8),
 }
 
 struct Rule {
@@ -31,7 +35,11 @@ const fn rule(type_code: u8, form: Form, lengths: FieldLengths) -> Rule {
         type_code,
         form,
         lengths,
-        highest_mode: if matches!(form, Form::Fixed) { 0 } else { 1 },
+        highest_mode: if matches!(form, Form::Fixed | Form::Packed) {
+            0
+        } else {
+            1
+        },
         highest_bias: if matches!(type_code, 0x47 | 0x48) {
             1
         } else {
@@ -40,13 +48,14 @@ const fn rule(type_code: u8, form: Form, lengths: FieldLengths) -> Rule {
     }
 }
 
-const RULES: [Rule; 9] = [
+const RULES: [Rule; 10] = [
     rule(0x01, Form::Fixed, FieldLengths::UpTo(32_767)),
     rule(0x02, Form::Variable, FieldLengths::UpTo(32_767)),
     rule(0x03, Form::NullTerminated, FieldLengths::UpTo(32_767)),
     rule(0x07, Form::Short, FieldLengths::UpTo(255)),
     rule(0x23, Form::Fixed, FieldLengths::OneOf(&[2, 4, 8])),
     rule(0x24, Form::Fixed, FieldLengths::OneOf(&[2, 4, 8])),
+    rule(0x30, Form::Packed, FieldLengths::Digits(18)),
     rule(0x40, Form::Fixed, FieldLengths::OneOf(&[4, 8, 16])),
     rule(0x47, Form::Fixed, FieldLengths::OneOf(&[4, 8])),
     rule(0x48, Form::Fixed, FieldLengths::OneOf(&[4, 8])),
@@ -57,15 +66,15 @@ pub(crate) const NULLABLE: u8 = 0x80;
 
 impl Rule {
     fn allows(&self, parameters: &[u8; 8]) -> bool {
-        let [reserved_0, reserved_1, bias @ .., reserved_4, mode, length_high, length_low] =
-            *parameters;
-        let length = u16::from_be_bytes([length_high, length_low]);
+        let [reserved_0, reserved_1, bias @ .., reserved_4, mode, byte_6, byte_7] = *parameters;
+        let length = u16::from_be_bytes([byte_6, byte_7]);
         [reserved_0, reserved_1, reserved_4] == [0, 0, 0]
             && u16::from_be_bytes(bias) <= self.highest_bias
             && mode <= self.highest_mode
             && match self.lengths {
                 FieldLengths::UpTo(highest) => length <= highest,
                 FieldLengths::OneOf(lengths) => lengths.contains(&length),
+                FieldLengths::Digits(most) => (1..=most).contains(&byte_6) && byte_7 <= byte_6,
             }
     }
 }
@@ -120,9 +129,22 @@ impl Field {
         self.parameters[5]
     }
 
-    /// The field length F.
+    /// The field length F; of a packed decimal, the bytes that its digits and sign take.
     pub fn field_length(&self) -> usize {
-        u16::from_be_bytes([self.parameters[6], self.parameters[7]]).into()
+        match self.form {
+            Form::Packed => self.digits() / 2 + 1,
+            _ => u16::from_be_bytes([self.parameters[6], self.parameters[7]]).into(),
+        }
+    }
+
+    /// The digits of a packed decimal.
+    pub(crate) fn digits(&self) -> usize {
+        self.parameters[6].into()
+    }
+
+    /// How many of a packed decimal's digits are fraction digits.
+    pub(crate) fn fraction_digits(&self) -> u32 {
+        self.parameters[7].into()
     }
 
     pub(crate) fn form(&self) -> Form {

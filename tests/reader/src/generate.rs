@@ -187,18 +187,18 @@ impl Generator {
         }
     }
 
-    /// An item number: often of a whole number, at times of no item.
+    /// An item number: often of a whole number or a packed decimal, at times of no item.
     fn item(&mut self, fields: &[Field]) -> u32 {
         let count = fields.len();
-        let whole_numbers: Vec<usize> = (0..count)
-            .filter(|&item| matches!(fields[item].plain_type(), 0x23 | 0x24))
+        let numbers: Vec<usize> = (0..count)
+            .filter(|&item| matches!(fields[item].plain_type(), 0x23 | 0x24 | 0x30))
             .collect();
         match self.random.below(20) {
             0 => count as u32,
             1 => (count + self.random.between(1, 4)) as u32,
             2 => self.random.pick(&[u32::MAX, 1 << 31, 65_536, 4_096, 256]),
             _ if count == 0 => 0,
-            3..=9 if !whole_numbers.is_empty() => self.random.pick(&whole_numbers) as u32,
+            3..=9 if !numbers.is_empty() => self.random.pick(&numbers) as u32,
             _ => self.random.below(count) as u32,
         }
     }

@@ -5,6 +5,7 @@
 //! these two steps.
 
 mod answers;
+mod counts;
 mod descriptor;
 mod dump;
 mod field;
@@ -13,11 +14,14 @@ mod refusal;
 mod walk;
 
 pub use answers::Answers;
+pub use counts::Counts;
 pub use descriptor::{unfold, MAX_DESCRIPTOR, MAX_ITEMS};
 pub use dump::dump;
 pub use field::Field;
 pub use refusal::*;
 pub use walk::{walk, Note, MAX_DATA};
+
+use field::Form;
 
 /// Checks a descriptor and gives its item count.
 pub fn check(descriptor: &[u8]) -> Result<u32, Refusal> {
@@ -52,7 +56,7 @@ pub struct State {
 
 /// Tells an item's state.
 pub fn state(descriptor: &[u8], data: &[u8], item: u32) -> Result<State, Refusal> {
-    note(descriptor, data, item).map(|note| State {
+    find(descriptor, data, item).map(|(_, note)| State {
         is_null: note.is_null,
         type_code: note.type_code,
         value_length: note.value.len() as u32,
@@ -62,9 +66,9 @@ pub fn state(descriptor: &[u8], data: &[u8], item: u32) -> Result<State, Refusal
 /// Lends an item's value: the part of the data that holds it, empty for a null
 /// and for whatever the state call refuses.
 pub fn lend<'b>(descriptor: &[u8], data: &'b [u8], item: u32) -> &'b [u8] {
-    note(descriptor, data, item)
+    find(descriptor, data, item)
         .ok()
-        .and_then(|note| data.get(note.value))
+        .and_then(|(_, note)| data.get(note.value))
         .unwrap_or_default()
 }
 
@@ -77,9 +81,9 @@ pub struct Whole {
 
 /// Reads a whole-number item.
 pub fn whole_number(descriptor: &[u8], data: &[u8], item: u32) -> Result<Whole, Refusal> {
-    let note = note(descriptor, data, item)?;
+    let (field, note) = find(descriptor, data, item)?;
     let bytes = &data[note.value];
-    let value = match note.type_code & !field::NULLABLE {
+    let value = match field.plain_type() {
         0x23 => signed(bytes.iter()),
         0x24 => signed(bytes.iter().rev()),
         _ => return Err(Refusal::at(WRONG_KIND, note.start)),
@@ -97,10 +101,63 @@ fn signed<'b>(bytes: impl Iterator<Item = &'b u8> + Clone) -> i64 {
     bytes.fold(sign, |value, &byte| value << 8 | i64::from(byte))
 }
 
-fn note(descriptor: &[u8], data: &[u8], item: u32) -> Result<Note, Refusal> {
+/// A packed decimal item: its digits as a whole number, which is 0 for a null, and
+/// how many of the field's digits are fraction digits.
+#[derive(Clone, Copy, Debug, Default, PartialEq, Eq)]
+pub struct Packed {
+    pub is_null: bool,
+    pub value: i64,
+    pub fraction_digits: u32,
+}
+
+/// Reads a packed decimal item.
+pub fn packed(descriptor: &[u8], data: &[u8], item: u32) -> Result<Packed, Refusal> {
+    let (field, note) = find(descriptor, data, item)?;
+    if field.form() != Form::Packed {
+        return Err(Refusal::at(WRONG_KIND, note.start));
+    }
+    let value = match note.is_null {
+        true => 0,
+        false => {
+            decimal(&data[note.value], field.digits()).ok_or(Refusal::at(BAD_DIGIT, note.start))?
+        }
+    };
+    Ok(Packed {
+        is_null: note.is_null,
+        value,
+        fraction_digits: field.fraction_digits(),
+    })
+}
+
+/// The number of so many packed digits with the sign behind them, if every half-byte
+/// is valid; one that is left over before them is zero.
+fn decimal(bytes: &[u8], digits: usize) -> Option<i64> {
+    let halves: Vec<u8> = bytes
+        .iter()
+        .flat_map(|byte| [byte >> 4, byte & 0xF])
+        .collect();
+    let (sign, before) = halves.split_last()?;
+    let (unused, digits) = before.split_at(before.len() - digits);
+    if unused.iter().any(|&half| half != 0) {
+        return None;
+    }
+    let magnitude = digits.iter().try_fold(0, |value, &digit| {
+        (digit <= 9).then_some(10 * value + i64::from(digit))
+    })?;
+    match sign {
+        0xA | 0xC | 0xE | 0xF => Some(magnitude),
+        0xB | 0xD => Some(-magnitude),
+        _ => None,
+    }
+}
+
+/// An item's field, and what the walk notes of the item.
+fn find(descriptor: &[u8], data: &[u8], item: u32) -> Result<(Field, Note), Refusal> {
     let fields = unfold_for(descriptor, data)?;
-    walk(&fields, data)?
+    let notes = walk(&fields, data)?;
+    fields
         .into_iter()
+        .zip(notes)
         .nth(item as usize)
         .ok_or(Refusal::at(NO_SUCH_ITEM, 0))
 }

@@ -82,7 +82,7 @@ fn measure(field: &Field, bytes: &[u8]) -> Result<Item, u32> {
 
 fn measure_value(field: &Field, bytes: &[u8]) -> Result<Item, u32> {
     match field.form() {
-        Form::Fixed => {
+        Form::Fixed | Form::Packed => {
             let length = field.field_length();
             let body = bytes.get(..length).ok_or(SHORT_DATA)?;
             Ok(Item::of_value(0..body.len(), length))

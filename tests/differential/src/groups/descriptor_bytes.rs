@@ -17,8 +17,14 @@ pub fn every_change(comparison: &mut Comparison) {
     }
 }
 
-fn blocks() -> [(Vec<u8>, Vec<u8>); 4] {
-    [nullable_strings(), overrides(), mixed_row(), nested_rows()]
+fn blocks() -> [(Vec<u8>, Vec<u8>); 5] {
+    [
+        nullable_strings(),
+        overrides(),
+        mixed_row(),
+        nested_rows(),
+        packed_decimals(),
+    ]
 }
 
 fn nullable_strings() -> (Vec<u8>, Vec<u8>) {
@@ -72,4 +78,21 @@ fn nested_rows() -> (Vec<u8>, Vec<u8>) {
         row(0xA7, &[[0xA5, 0, 1], [0xA6, 0, 1]]),
     ];
     (descriptor.concat(), vec![b'a'; 34])
+}
+
+/// Odd and even numbers of digits, a null, and a bad digit.
+fn packed_decimals() -> (Vec<u8>, Vec<u8>) {
+    let descriptor = [
+        sda(1, 0x30, 0, 0x0301, &[2]),
+        sda(2, 0xB0, 0, 0x1212, &[]),
+        row(3, &[[1, 0, 1], [2, 0, 2]]),
+    ];
+    let data = [
+        &[0x12, 0x3C, 0x1A, 0x3D][..],
+        &[
+            0, 0x09, 0x87, 0x65, 0x43, 0x21, 0x01, 0x23, 0x45, 0x67, 0x8D,
+        ],
+        &[0x80],
+    ];
+    (descriptor.concat(), data.concat())
 }

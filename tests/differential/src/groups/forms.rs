@@ -18,6 +18,8 @@ enum Form {
         mode: u8,
         has_length: bool,
     },
+    /// The digits of a packed decimal.
+    Digits(u8),
     Extents(usize),
     ElementsTaken,
     Repetition,
@@ -30,13 +32,14 @@ const FREE_LENGTHS: [bool; 2] = [false, true];
 const SOME_LENGTH: [bool; 1] = [true];
 
 /// Plain type, modes, whether the field length is above 0.
-const TYPES: [(u8, &[u8], &[bool]); 9] = [
+const TYPES: [(u8, &[u8], &[bool]); 10] = [
     (0x01, &[0], &FREE_LENGTHS),
     (0x02, &[0, 1], &FREE_LENGTHS),
     (0x03, &[0, 1], &FREE_LENGTHS),
     (0x07, &[0, 1], &FREE_LENGTHS),
     (0x23, &[0], &SOME_LENGTH),
     (0x24, &[0], &SOME_LENGTH),
+    (0x30, &[0], &SOME_LENGTH),
     (0x40, &[0], &SOME_LENGTH),
     (0x47, &[0], &SOME_LENGTH),
     (0x48, &[0], &SOME_LENGTH),
@@ -67,6 +70,7 @@ fn all_forms() -> BTreeSet<Form> {
         Form::Continuation,
         Form::Support,
     ]);
+    forms.extend((1..=18).map(Form::Digits));
     for (plain, modes, lengths) in TYPES {
         for type_code in [plain, plain + 0x80] {
             for &mode in modes {
@@ -84,6 +88,8 @@ fn all_forms() -> BTreeSet<Form> {
 fn forms(descriptor: &[u8]) -> Vec<Form> {
     let fields = unfold(descriptor).unwrap_or_default();
     let mut forms: Vec<Form> = fields.iter().map(field_form).collect();
+    let packed = fields.iter().filter(|field| field.plain_type() == 0x30);
+    forms.extend(packed.map(|field| Form::Digits(field.parameters()[6])));
     let triplets = triplets(descriptor);
     let rows: Vec<u8> = triplets
         .iter()

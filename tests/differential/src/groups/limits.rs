@@ -7,13 +7,14 @@ use reader::{check, state, Refusal, MAX_DATA, MAX_DESCRIPTOR, SURPLUS};
 use crate::compare::Comparison;
 
 /// SDAs of id 1 without extents.
-fn sdas() -> [Vec<u8>; 5] {
+fn sdas() -> [Vec<u8>; 6] {
     [
         sda(1, 0x01, 0, 0, &[]),
         sda(1, 0x23, 0, 2, &[]),
         sda(1, 0x82, 1, 4, &[]),
         sda(1, 0x03, 0, 7, &[]),
         sda(1, 0x87, 0, 5, &[]),
+        sda(1, 0xB0, 0, 0x0402, &[]),
     ]
 }
 
@@ -83,8 +84,14 @@ const EXTENTS: [&[u16]; 12] = [
 
 pub fn counts(comparison: &mut Comparison) {
     for extents in EXTENTS {
-        for type_code in [0x01, 0x81, 0x23, 0xA4, 0x87] {
-            let field_length = if type_code & 0x7F < 0x20 { 1 } else { 2 };
+        for (type_code, field_length) in [
+            (0x01, 1),
+            (0x81, 1),
+            (0x23, 2),
+            (0xA4, 2),
+            (0x87, 1),
+            (0x30, 0x0100),
+        ] {
             let sda = sda(1, type_code, 0, field_length, extents);
             compare_around(comparison, &sda);
             for group in [[1, 0, 1], [1, 1, 1], [1, 64, 1], [1, 255, 1], [1, 16, 4]] {

@@ -3,13 +3,13 @@
 //! `table SEED COUNT` writes the fixed cases (short ones, files with the text that the
 //! dump program prints, long ones), then COUNT random ones to standard output, in chunks of 50,
 //! and one line to standard error: how often each number was met by a random case. The exit status is
-//! 1 unless every number from 0 to 18 was met at least ten times.
+//! 1 unless every number that the calls can give was met at least ten times.
 
 use std::io::{self, BufWriter, Write};
 use std::process::ExitCode;
 
 use reader::generate::{edges, files, limits, seed_and_count, Case, Generator};
-use reader::{dump, Answers};
+use reader::{dump, Answers, Counts};
 
 const CHUNK: usize = 50;
 const SHORTEST_RUN: usize = 16;
@@ -24,7 +24,7 @@ fn main() -> ExitCode {
     match print(seed, count) {
         Ok(met) => {
             eprintln!("{}", counts_line(&met));
-            ExitCode::from(u8::from(met.iter().any(|&times| times < FEWEST)))
+            ExitCode::from(u8::from(met.fewest() < FEWEST))
         }
         Err(error) => {
             eprintln!("{error}");
@@ -34,13 +34,13 @@ fn main() -> ExitCode {
 }
 
 /// Prints the table and tells how often each number was met.
-fn print(seed: u64, count: usize) -> io::Result<[u64; 19]> {
+fn print(seed: u64, count: usize) -> io::Result<Counts> {
     let mut out = BufWriter::new(io::stdout().lock());
     let random: Vec<Case> = Generator::new(seed).take(count).collect();
-    print_cases(&mut out, "edges", &edges(), &mut [0; 19])?;
+    print_cases(&mut out, "edges", &edges(), &mut Counts::default())?;
     print_files(&mut out, &files(seed, FILES))?;
-    print_cases(&mut out, "limits", &limits(), &mut [0; 19])?;
-    let mut met = [0; 19];
+    print_cases(&mut out, "limits", &limits(), &mut Counts::default())?;
+    let mut met = Counts::default();
     print_cases(&mut out, "cases", &random, &mut met)?;
     out.flush()?;
     Ok(met)
@@ -50,14 +50,14 @@ fn print_cases(
     out: &mut impl Write,
     name: &str,
     cases: &[Case],
-    met: &mut [u64; 19],
+    met: &mut Counts,
 ) -> io::Result<()> {
     for (number, chunk) in cases.chunks(CHUNK).enumerate() {
         let mut rows = Vec::new();
         for case in chunk {
             let answers = Answers::of(case);
             for number in answers.numbers() {
-                met[number as usize] += 1;
+                met.add(number).expect("a number that calls give");
             }
             rows.push(case_text(case, &answers));
         }
@@ -100,10 +100,9 @@ fn print_rows(out: &mut impl Write, name: &str, row: &str, rows: &[String]) -> i
     writeln!(out, "{name} =\n    {}\n    ∷ []\n", rows.join("\n    ∷ "))
 }
 
-fn counts_line(met: &[u64; 19]) -> String {
+fn counts_line(met: &Counts) -> String {
     let counts: Vec<String> = met
         .iter()
-        .enumerate()
         .map(|(number, times)| format!("{number}:{times}"))
         .collect();
     counts.join(" ")

@@ -3,6 +3,7 @@
 use super::random::Random;
 use super::structured::isd;
 use crate::descriptor::{CPT, RLO, SDA};
+use crate::field::NULLABLE;
 
 /// Damages a descriptor once or twice; the result may still be valid.
 pub(super) fn damaged(random: &mut Random, mut triplets: Vec<Vec<u8>>) -> Vec<u8> {
@@ -23,12 +24,12 @@ pub(super) fn damaged(random: &mut Random, mut triplets: Vec<Vec<u8>>) -> Vec<u8
 }
 
 fn damage(random: &mut Random, triplets: &mut Vec<Vec<u8>>) {
-    match random.below(12) {
+    match random.below(13) {
         0 | 1 => header(random, triplets),
-        2 => parameters(random, triplets),
-        3 => extents(random, triplets),
-        4..=7 => group(random, triplets),
-        8 => stray(random, triplets),
+        2 | 3 => parameters(random, triplets),
+        4 => extents(random, triplets),
+        5..=8 => group(random, triplets),
+        9 => stray(random, triplets),
         _ => order(random, triplets),
     }
 }
@@ -48,6 +49,14 @@ fn header(random: &mut Random, triplets: &mut [Vec<u8>]) {
     }
 }
 
+/// Field lengths, in the ranges of the types and beside them.
+const LENGTHS: [u16; 10] = [1, 2, 3, 8, 16, 255, 256, 0x7FFF, 0x8000, 0xFFFF];
+
+/// Digits and fraction digits of a packed decimal, in their ranges and beside them.
+const DIGITS: [u16; 10] = [
+    0, 0x0001, 0x0101, 0x0102, 0x0180, 0x1212, 0x1213, 0x1300, 0x1F1F, 0xFFFF,
+];
+
 /// Changes an SDA's field type or one of its type parameters.
 fn parameters(random: &mut Random, triplets: &mut [Vec<u8>]) {
     let Some(triplet) = any(random, triplets, is_sda) else {
@@ -55,9 +64,12 @@ fn parameters(random: &mut Random, triplets: &mut [Vec<u8>]) {
     };
     match random.below(4) {
         0 => triplet[3] = random.byte(),
-        1 => triplet[3] = random.pick(&[0x00, 0x80, 0x10, 0x22, 0x30, 0x82, 0x03, 0xC0]),
+        1 => triplet[3] = random.pick(&[0x00, 0x80, 0x10, 0x22, 0x33, 0x82, 0x03, 0xB0, 0xC0]),
         2 => {
-            let lengths = [1_u16, 2, 3, 8, 16, 255, 256, 0x7FFF, 0x8000, 0xFFFF];
+            let lengths = match triplet[3] & !NULLABLE {
+                0x30 => DIGITS,
+                _ => LENGTHS,
+            };
             triplet[10..12].copy_from_slice(&random.pick(&lengths).to_be_bytes());
         }
         _ => triplet[random.between(4, 9)] = random.pick(&[1, 2, 0x80, 0xFF]),

@@ -1,11 +1,14 @@
 //! Fixed cases and files: what the papers name by a number, at that number and
 //! beside it.
 
+mod packed;
+
 use super::fitting;
 use super::random::Random;
 use super::structured::{plain_parameters, sda_of, with_groups, TYPES};
 use super::{Case, Generator};
 use crate::descriptor::{CPT, ISD, MAX_DESCRIPTOR, RLO, SDA};
+use crate::field::NULLABLE;
 use crate::unfold;
 use crate::walk::MAX_DATA;
 
@@ -21,6 +24,8 @@ pub fn edges() -> Vec<Case> {
         .map(|descriptor| fitting_case(&mut random, descriptor))
         .collect();
     cases.extend(blocks());
+    cases.extend(asked_of_every_type(&mut random));
+    cases.extend(packed::blocks());
     cases
 }
 
@@ -66,6 +71,7 @@ fn descriptors() -> Vec<Vec<u8>> {
         ids(),
         groups(),
         extents(),
+        packed::descriptors(),
     ]
     .concat()
 }
@@ -73,8 +79,16 @@ fn descriptors() -> Vec<Vec<u8>> {
 /// Every type code, as a field of four bytes.
 fn type_codes() -> Vec<Vec<u8>> {
     (0..=255)
-        .map(|code| sda_of(1, code, plain_parameters(0, 4), &[]))
+        .map(|code| sda_of(1, code, four_bytes(code), &[]))
         .collect()
+}
+
+/// The type parameters of a field of four bytes, for all types that have such.
+fn four_bytes(code: u8) -> [u8; 8] {
+    match code & !NULLABLE {
+        0x30 => plain_parameters(0, 0x0702),
+        _ => plain_parameters(0, 4),
+    }
 }
 
 /// The field lengths that some rule names, and those beside them.
@@ -91,7 +105,7 @@ fn field_lengths() -> Vec<Vec<u8>> {
 /// Bytes 0 to 5 of the type parameters, each at 1 and at 2.
 fn parameters() -> Vec<Vec<u8>> {
     let changed = |code: u8, byte: usize, value: u8| {
-        let mut parameters = plain_parameters(0, 4);
+        let mut parameters = four_bytes(code);
         parameters[byte] = value;
         sda_of(1, code, parameters, &[])
     };
@@ -287,8 +301,8 @@ fn case(descriptor: &[u8], data: &[u8], list: usize, item: u32) -> Case {
     }
 }
 
-/// A block cut at each byte, lists around the needed size, item numbers around the
-/// count, and whole numbers asked of every type.
+/// A block cut at each byte, lists around the needed size, and item numbers around the
+/// count.
 fn blocks() -> Vec<Case> {
     let mut cases = Vec::new();
     let pair = [
@@ -309,15 +323,32 @@ fn blocks() -> Vec<Case> {
         cases.push(case(&pair, &[0, 9, 0x80], 6, item));
         cases.push(case(&pair, &[0, 9, 0x80, 0], 6, item));
     }
+    cases
+}
+
+/// Whole numbers and packed decimals asked of every type: of four bytes, of bytes that
+/// fit, and of a null.
+fn asked_of_every_type(random: &mut Random) -> Vec<Case> {
+    let mut cases = Vec::new();
     for code in plain_types() {
+        let plain = behind_a_byte(sda_of(2, code, four_bytes(code), &[]));
+        let nullable = behind_a_byte(sda_of(2, code + NULLABLE, four_bytes(code), &[]));
         for bytes in [[0x80, 0, 0, 0], [0, 0, 0, 0x80], [0xFF; 4]] {
-            let last = sda_of(2, code, plain_parameters(0, 4), &[]);
-            let row = with_groups(RLO, 3, &[[1, 0, 1], [2, 0, 1]]);
-            let descriptor = [sda_of(1, 0x01, plain_parameters(0, 1), &[]), last, row].concat();
-            cases.push(case(&descriptor, &[&[5][..], &bytes].concat(), 6, 1));
+            cases.push(case(&plain, &[&[5][..], &bytes].concat(), 6, 1));
         }
+        cases.push(case(&nullable, &[5, 0x80], 6, 1));
+        cases.push(Case {
+            item: 1,
+            ..fitting_case(random, plain)
+        });
     }
     cases
+}
+
+/// A field of one byte, then that of an SDA of id 2.
+fn behind_a_byte(sda: Vec<u8>) -> Vec<u8> {
+    let row = with_groups(RLO, 3, &[[1, 0, 1], [2, 0, 1]]);
+    [sda_of(1, 0x01, plain_parameters(0, 1), &[]), sda, row].concat()
 }
 
 /// Files for the dump program: of random blocks, and around their sizes.

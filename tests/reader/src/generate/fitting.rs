@@ -16,7 +16,7 @@ pub(super) fn data(random: &mut Random, fields: &[Field]) -> Vec<u8> {
 pub(super) fn spoiled_data(random: &mut Random, fields: &[Field]) -> Option<Vec<u8>> {
     let can_spoil: Vec<usize> = (0..fields.len())
         .filter(|&item| match fields[item].form() {
-            Form::Fixed => false,
+            Form::Fixed | Form::Packed => false,
             Form::Variable => true,
             Form::NullTerminated | Form::Short => fields[item].field_length() > 0,
         })
@@ -56,6 +56,7 @@ fn value(random: &mut Random, field: &Field) -> Vec<u8> {
         Form::Fixed => fixed(random, field.field_length()),
         Form::Variable | Form::Short => counted(random, field),
         Form::NullTerminated => null_terminated(random, field),
+        Form::Packed => packed(random, field.digits()),
     }
 }
 
@@ -70,6 +71,55 @@ fn fixed(random: &mut Random, count: usize) -> Vec<u8> {
         bytes[end] = random.pick(&[0x80, 0x7F, 0xFE, 0x01]);
     }
     bytes
+}
+
+/// So many digits with a sign of any kind; now and then one half-byte is not valid.
+fn packed(random: &mut Random, digits: usize) -> Vec<u8> {
+    let number: Vec<u8> = match random.below(4) {
+        0 => vec![random.pick(&[0, 9]); digits],
+        _ => (0..digits).map(|_| random.below(10) as u8).collect(),
+    };
+    let mut halves = half_bytes(&number, random.between(0xA, 0xF) as u8);
+    if random.one_in(4) {
+        spoil(random, &mut halves, digits);
+    }
+    bytes_of(&halves)
+}
+
+/// The half-bytes of a packed decimal; before an even number of digits one is unused.
+pub(super) fn half_bytes(digits: &[u8], sign: u8) -> Vec<u8> {
+    let unused: &[u8] = match digits.len() % 2 {
+        0 => &[0],
+        _ => &[],
+    };
+    [unused, digits, &[sign]].concat()
+}
+
+/// The bytes of an even number of half-bytes.
+pub(super) fn bytes_of(half_bytes: &[u8]) -> Vec<u8> {
+    half_bytes
+        .chunks_exact(2)
+        .map(|pair| pair[0] << 4 | pair[1])
+        .collect()
+}
+
+/// Makes the unused half-byte, the sign or a digit one that is not valid.
+fn spoil(random: &mut Random, halves: &mut [u8], digits: usize) {
+    let sign = halves.len() - 1;
+    let place = match random.below(3) {
+        0 => 0,
+        1 => sign,
+        _ => random.below(sign),
+    };
+    let is_unused = place + digits < sign;
+    let half = if is_unused {
+        random.between(1, 0xF)
+    } else if place == sign {
+        random.below(10)
+    } else {
+        random.between(0xA, 0xF)
+    };
+    halves[place] = half as u8;
 }
 
 /// How many bytes a value of the field has, often as few or as many as allowed.

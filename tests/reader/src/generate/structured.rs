@@ -3,9 +3,10 @@
 use super::random::Random;
 use crate::descriptor::{CPT, ISD, RLO, SDA};
 
-/// The plain field types; whole numbers stand twice so that they come more often.
-pub(super) const TYPES: [u8; 11] = [
-    0x01, 0x02, 0x03, 0x07, 0x23, 0x24, 0x23, 0x24, 0x40, 0x47, 0x48,
+/// The plain field types; whole numbers and packed decimals stand twice so that they
+/// come more often.
+pub(super) const TYPES: [u8; 13] = [
+    0x01, 0x02, 0x03, 0x07, 0x23, 0x24, 0x23, 0x24, 0x30, 0x30, 0x40, 0x47, 0x48,
 ];
 
 /// The triplets of a valid descriptor of at most `items` items.
@@ -35,7 +36,8 @@ pub(super) fn sda_of(id: u8, type_code: u8, parameters: [u8; 8], extents: &[u16]
     triplet
 }
 
-/// Type parameters of field length F and the mode given.
+/// Type parameters of field length F and the mode given. For a packed decimal, the
+/// high byte of F is the digits and the low byte the fraction digits.
 pub(super) fn plain_parameters(mode: u8, field_length: u16) -> [u8; 8] {
     let [high, low] = field_length.to_be_bytes();
     [0, 0, 0, 0, 0, mode, high, low]
@@ -46,6 +48,7 @@ fn parameters(random: &mut Random, plain: u8) -> [u8; 8] {
     let (mode, field_length) = match plain {
         0x01 => (0, random.below(if is_large { 24 } else { 6 })),
         0x02 | 0x03 | 0x07 => (random.below(2), random.below(if is_large { 24 } else { 6 })),
+        0x30 => (0, digits(random)),
         0x40 => (0, random.pick(&[4, 8, 16])),
         0x47 | 0x48 => (0, random.pick(&[4, 8])),
         _ => (0, random.pick(&[2, 4, 8])),
@@ -55,6 +58,19 @@ fn parameters(random: &mut Random, plain: u8) -> [u8; 8] {
         parameters[3] = random.below(2) as u8;
     }
     parameters
+}
+
+/// Digits and fraction digits, often at the ends of their ranges.
+fn digits(random: &mut Random) -> usize {
+    let digits = match random.below(3) {
+        0 => random.pick(&[1, 2, 17, 18]),
+        _ => random.between(1, 18),
+    };
+    let fraction_digits = match random.below(3) {
+        0 => random.pick(&[0, digits]),
+        _ => random.between(0, digits),
+    };
+    digits << 8 | fraction_digits
 }
 
 pub(super) fn isd(random: &mut Random) -> Vec<u8> {

@@ -14,13 +14,28 @@ fn the_same_seed_gives_the_same_cases() {
 
 #[test]
 fn every_number_is_met() {
-    let mut met = [0; 19];
+    let mut met = Counts::default();
     for case in Generator::new(1).take(2_000) {
         for number in Answers::of(&case).numbers() {
-            met[number as usize] += 1;
+            met.add(number).expect("a number that calls give");
         }
     }
-    assert!(met.iter().all(|&times| times >= 10), "{met:?}");
+    assert!(met.fewest() >= 10, "{met:?}");
+}
+
+#[test]
+fn packed_decimals_of_every_kind_are_read() {
+    let read = |case: Case| packed(&case.descriptor, &case.data, case.item).ok();
+    let decimals: Vec<Packed> = Generator::new(6).take(2_000).filter_map(read).collect();
+    let assert_often = |name: &str, is_kind: fn(&&Packed) -> bool| {
+        let times = decimals.iter().filter(is_kind).count();
+        assert!(times >= 10, "{name}: {times} of {}", decimals.len());
+    };
+    assert_often("null", |decimal| decimal.is_null);
+    assert_often("plus", |decimal| decimal.value > 0);
+    assert_often("minus", |decimal| decimal.value < 0);
+    assert_often("whole", |decimal| decimal.fraction_digits == 0);
+    assert_often("long", |decimal| decimal.value.abs() >= 10_i64.pow(16));
 }
 
 #[test]
@@ -79,6 +94,7 @@ fn answers_agree_with_each_other() {
             Err(refusal) => {
                 assert!(answers.lent.is_empty());
                 assert_eq!(answers.whole, Err(refusal));
+                assert_eq!(answers.packed, Err(refusal));
             }
         }
     }

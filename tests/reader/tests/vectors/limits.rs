@@ -157,6 +157,28 @@ fn refusals_come_in_order() {
     }
 }
 
+/// Digits of a packed decimal with none to all of them as fraction digits.
+const DIGITS: [RangeInclusive<u16>; 18] = [
+    0x0100..=0x0101,
+    0x0200..=0x0202,
+    0x0300..=0x0303,
+    0x0400..=0x0404,
+    0x0500..=0x0505,
+    0x0600..=0x0606,
+    0x0700..=0x0707,
+    0x0800..=0x0808,
+    0x0900..=0x0909,
+    0x0A00..=0x0A0A,
+    0x0B00..=0x0B0B,
+    0x0C00..=0x0C0C,
+    0x0D00..=0x0D0D,
+    0x0E00..=0x0E0E,
+    0x0F00..=0x0F0F,
+    0x1000..=0x1010,
+    0x1100..=0x1111,
+    0x1200..=0x1212,
+];
+
 /// Plain type, highest mode, highest bias indicator, allowed field lengths.
 const RULES: &[(u8, u8, u16, &[RangeInclusive<u16>])] = &[
     (0x01, 0, 0, &[0..=32_767]),
@@ -165,6 +187,7 @@ const RULES: &[(u8, u8, u16, &[RangeInclusive<u16>])] = &[
     (0x07, 1, 0, &[0..=255]),
     (0x23, 0, 0, &[2..=2, 4..=4, 8..=8]),
     (0x24, 0, 0, &[2..=2, 4..=4, 8..=8]),
+    (0x30, 0, 0, &DIGITS),
     (0x40, 0, 0, &[4..=4, 8..=8, 16..=16]),
     (0x47, 0, 1, &[4..=4, 8..=8]),
     (0x48, 0, 1, &[4..=4, 8..=8]),
@@ -210,9 +233,22 @@ fn every_type_code_with_every_parameter_byte() {
     for type_code in 0..=255 {
         for offset in 0..8 {
             for value in 0..=255 {
-                let mut parameters = [0, 0, 0, 0, 0, 0, 0, 4];
-                parameters[offset] = value;
-                assert_parameters(type_code, parameters);
+                for (high, low) in [(0, 4), (7, 2)] {
+                    let mut parameters = [0, 0, 0, 0, 0, 0, high, low];
+                    parameters[offset] = value;
+                    assert_parameters(type_code, parameters);
+                }
+            }
+        }
+    }
+}
+
+#[test]
+fn every_number_of_digits_and_fraction_digits() {
+    for type_code in [0x30, 0xB0] {
+        for mode in [0, 1] {
+            for [high, low] in (0..=u16::MAX).map(u16::to_be_bytes) {
+                assert_parameters(type_code, [0, 0, 0, 0, 0, mode, high, low]);
             }
         }
     }

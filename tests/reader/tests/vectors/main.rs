@@ -5,4 +5,5 @@ mod environment;
 mod examples;
 mod generator;
 mod limits;
+mod packed;
 mod support;

@@ -36,6 +36,10 @@ pub enum Answer {
     Length(usize),
     Value(Vec<u8>),
     Whole(i64),
+    /// A packed decimal's value and fraction digits.
+    Packed(i64, u32),
+    /// A packed decimal of a half-byte that is not valid.
+    BadDigit,
 }
 
 impl Answer {
@@ -47,6 +51,14 @@ impl Answer {
             "length" => Answer::Length(rest.parse().expect(text)),
             "value" => Answer::Value(hex(rest)),
             "whole" => Answer::Whole(rest.parse().expect(text)),
+            "packed" => {
+                let (value, fraction_digits) = rest.split_once(' ').expect(text);
+                Answer::Packed(
+                    value.parse().expect(text),
+                    fraction_digits.parse().expect(text),
+                )
+            }
+            "bad" => Answer::BadDigit,
             _ => panic!("{text}"),
         }
     }
@@ -90,11 +102,12 @@ pub fn sda(id: u8, type_code: u8, mode: u8, field_length: u16) -> Vec<u8> {
 /// An SDA of id B1 for every type code that has a rule, with each mode and with
 /// field lengths at the ends of their range.
 pub fn every_sda() -> Vec<Vec<u8>> {
-    let types: [(&[u8], u8, &[u16]); 6] = [
+    let types: [(&[u8], u8, &[u16]); 7] = [
         (&[0x01], 0, &[0, 1, 32_767]),
         (&[0x02, 0x03], 1, &[0, 1, 32_767]),
         (&[0x07], 1, &[0, 1, 255]),
         (&[0x23, 0x24], 0, &[2, 4, 8]),
+        (&[0x30], 0, &[0x0100, 0x0101, 0x1200, 0x1212]),
         (&[0x40], 0, &[4, 8, 16]),
         (&[0x47, 0x48], 0, &[4, 8]),
     ];
@@ -165,6 +178,7 @@ fn assert_refused(name: &str, descriptor: &[u8], data: &[u8], refusal: Refusal) 
     for item in [0, 1, 70_000, u32::MAX] {
         assert_eq!(state(descriptor, data, item), Err(refusal), "{name}");
         assert_eq!(whole_number(descriptor, data, item), Err(refusal), "{name}");
+        assert_eq!(packed(descriptor, data, item), Err(refusal), "{name}");
         assert!(lend(descriptor, data, item).is_empty(), "{name}");
     }
 }
@@ -182,13 +196,39 @@ fn assert_item(name: &str, descriptor: &[u8], data: &[u8], answer: &Answer) {
             let whole = whole_number(descriptor, data, 0).expect(name);
             assert_eq!((whole.is_null, whole.value), (false, *value), "{name}");
         }
+        Answer::Packed(value, fraction_digits) => {
+            let expected = Packed {
+                is_null: false,
+                value: *value,
+                fraction_digits: *fraction_digits,
+            };
+            assert_eq!(packed(descriptor, data, 0), Ok(expected), "{name}");
+        }
+        Answer::BadDigit => {
+            let answer = packed(descriptor, data, 0);
+            assert_eq!(answer, refused(BAD_DIGIT, 0), "{name}");
+        }
         Answer::Null | Answer::Refused(_) => assert!(lent.is_empty(), "{name}"),
     }
+    assert_wrong_kinds(name, descriptor, data);
     let mut entries = [u32::MAX; 5];
     if check(descriptor) == Ok(1) {
         let id = unfold(descriptor).expect(name)[0].id();
         assert_eq!(list(descriptor, data, &mut entries), Ok(()), "{name}");
         let expected = [1, data.len() as u32, 0, id.into(), u32::MAX];
         assert_eq!(entries, expected, "{name}");
+    }
+}
+
+/// Asserts that the value calls refuse item 0, but for the one of its type.
+fn assert_wrong_kinds(name: &str, descriptor: &[u8], data: &[u8]) {
+    let plain = descriptor[3] & 0x7F;
+    if !matches!(plain, 0x23 | 0x24) {
+        let answer = whole_number(descriptor, data, 0);
+        assert_eq!(answer, refused(WRONG_KIND, 0), "{name}");
+    }
+    if plain != 0x30 {
+        let answer = packed(descriptor, data, 0);
+        assert_eq!(answer, refused(WRONG_KIND, 0), "{name}");
     }
 }
