@@ -1,6 +1,6 @@
 /*
  * Reads FD:OCA data blocks: checks a descriptor, lists the items of a block that it describes, tells an item's state and
- * where its value lies, reads a whole-number item.
+ * where its value lies, reads a whole number or a packed decimal.
  *
  * For C99 or later. The library is proved and made by `tools/build panel`, and a program links it by
  *
@@ -52,7 +52,7 @@ extern "C" {
  * an item's is its offset in the data. "Exception" is the standard's exception-id.
  *
  * The reasons are tried in this order: 1; the triplets from left to right, each by rising number from 2 to 10, with 8, 9
- * and 10 taken group by group; 11; 12; the items in order, by 13 to 15; 16; 17; 18.
+ * and 10 taken group by group; 11; 12; the items in order, by 13 to 15; 16; 17; 18; 20.
  */
 enum fdoca_number {
     /* Nothing is wrong. Place: 0. */
@@ -111,12 +111,16 @@ enum fdoca_number {
     /* The block has no item of that number. Place: 0. */
     FDOCA_NO_SUCH_ITEM = 17,
 
-    /* The item, null or not, is of a type other than a whole number. Place: the item. */
+    /* The item, null or not, is of no type that the call reads. Place: the item. */
     FDOCA_WRONG_TYPE = 18,
 
     /* For programs that read a block from a file: the file does not fit the sizes that it starts with. No call gives
      * this number. Place: 0. */
-    FDOCA_BAD_FILE = 19
+    FDOCA_BAD_FILE = 19,
+
+    /* A packed decimal has a digit above 9, a sign below X'A', or an unused first half-byte other than 0. fdoca_packed alone
+     * looks at these, in the one item that it reads. Place: the item. */
+    FDOCA_INVALID_DIGIT = 20
 };
 
 /*
@@ -131,6 +135,7 @@ enum fdoca_type {
     FDOCA_TYPE_SHORT = 0x07,          /* 7, 135: a string of bytes, with a length of one byte before it */
     FDOCA_TYPE_WHOLE = 0x23,          /* 35, 163: a signed whole number, most significant byte first */
     FDOCA_TYPE_WHOLE_REVERSED = 0x24, /* 36, 164: a signed whole number, least significant byte first */
+    FDOCA_TYPE_PACKED = 0x30,         /* 48, 176: a packed decimal: 1 to 18 digits, two to a byte, and a sign */
     FDOCA_TYPE_HEX_FLOAT = 0x40,      /* 64, 192: a hexadecimal float */
     FDOCA_TYPE_FLOAT_REVERSED = 0x47, /* 71, 199: a binary float, least significant byte first */
     FDOCA_TYPE_FLOAT = 0x48           /* 72, 200: a binary float, most significant byte first */
@@ -195,6 +200,20 @@ uint32_t fdoca_lend(const uint8_t *descriptor, size_t descriptor_size, const uin
 uint32_t fdoca_whole_number(const uint8_t *descriptor, size_t descriptor_size, const uint8_t *data, size_t data_size,
                             uint32_t item, uint32_t *place, uint32_t *is_null, int64_t *value);
 
+/*
+ * Reads a packed decimal: digits of half a byte, and in the last half-byte the sign, where A, C, E and F are plus, B and D
+ * minus. If the count of digits is even, an unused half-byte goes before them.
+ *
+ * item: the item's number, from 0.
+ * is_null: 1 if the item is null, else 0.
+ * value: the whole number of its digits and sign, 0 if it is null. Minus zero is 0.
+ * fraction_digits: how many of the digits, counted from the last, are a fraction; told of a null too. The quantity is the
+ * value divided by 10 to the power of fraction_digits.
+ * Refuses by 1 to 11, 13 to 18 and 20.
+ */
+uint32_t fdoca_packed(const uint8_t *descriptor, size_t descriptor_size, const uint8_t *data, size_t data_size,
+                      uint32_t item, uint32_t *place, uint32_t *is_null, int64_t *value, uint32_t *fraction_digits);
+
 /* The start of item k in a list that a call wrote, and the id of the item's SDA. k is below list[0]. */
 static inline uint32_t fdoca_item_start(const uint32_t *list, uint32_t k)
 {
@@ -258,9 +277,11 @@ static inline const char *fdoca_text(uint32_t number)
     case FDOCA_NO_SUCH_ITEM:
         return "no such item";
     case FDOCA_WRONG_TYPE:
-        return "item is no whole number";
+        return "item is of the wrong type";
     case FDOCA_BAD_FILE:
         return "file does not fit its sizes";
+    case FDOCA_INVALID_DIGIT:
+        return "digit or sign not valid";
     default:
         return "unknown number";
     }
@@ -315,6 +336,16 @@ static inline uint32_t fdoca_whole_number_null_ok(const uint8_t *descriptor, siz
 
     return fdoca_whole_number(descriptor_size == 0 ? &none : descriptor, descriptor_size,
                               data_size == 0 ? &none : data, data_size, item, place, is_null, value);
+}
+
+static inline uint32_t fdoca_packed_null_ok(const uint8_t *descriptor, size_t descriptor_size, const uint8_t *data,
+                                            size_t data_size, uint32_t item, uint32_t *place, uint32_t *is_null,
+                                            int64_t *value, uint32_t *fraction_digits)
+{
+    const uint8_t none = 0;
+
+    return fdoca_packed(descriptor_size == 0 ? &none : descriptor, descriptor_size, data_size == 0 ? &none : data,
+                        data_size, item, place, is_null, value, fraction_digits);
 }
 
 #ifdef __cplusplus

@@ -60,6 +60,7 @@ static void expect_refused(struct bytes d, struct bytes s, uint32_t item, uint32
     expect(state_gives(d, s, item, number, place, 0, 0, 0), "state refused", name);
     expect(lend_gives(d, s, item, number, place, 0, 0), "lend refused", name);
     expect(whole_gives(d, s, item, number, place, 0, 0), "whole number refused", name);
+    expect(packed_gives(d, s, item, number, place, 0, 0, 0), "packed decimal refused", name);
 }
 
 /* ---- descriptors: number, place and items of the check */
@@ -88,6 +89,10 @@ static const struct check_case checks[] = {
     {"SDA id 0", "0C7000010000000000000003", 6, 0, 0},
     {"type without a rule", S("22", "0002"), 6, 0, 0},
     {"whole number of 3 bytes", S("23", "0003"), 6, 0, 0},
+    {"packed decimal without digits", S("30", "0000"), 6, 0, 0},
+    {"packed decimal of 19 digits", S("30", "1300"), 6, 0, 0},
+    {"packed decimal of 3 digits, 4 of them a fraction", S("B0", "0304"), 6, 0, 0},
+    {"packed decimal of mode 1", M("30", "01", "0300"), 6, 0, 0},
     {"extent 0", "0E70B10100000000000000010000", 6, 0, 0},
     {"id twice", S("01", "0003") S("01", "0004"), 7, 12, 0},
     {"reference to itself", "0671A1A10001", 8, 0, 0},
@@ -150,6 +155,10 @@ static const struct block_case blocks[] = {
     {"variable, F bytes", V("00", "0004"), "000241420000", {{0xB1, 6, 1}}},
     {"null-terminated", Z("01", "0002"), "4100", {{0xB1, 2, 1}}},
     {"whole number", S("23", "0002"), "FFFE", {{0xB1, 2, 1}}},
+    {"packed decimals, with bad digits",
+     S("B0", "0402") "0C70B2300000000000000501" "0971A1B10002B20002",
+     "00FFFFFF8012345CAAAAAA",
+     {{0xB1, 4, 1}, {0xB1, 1, 1}, {0xB2, 3, 2}}},
 };
 
 static const struct block_case figures[] = {
@@ -265,6 +274,11 @@ static const struct refusal_case refusals[] = {
     {"second item without an end", Z("01", "0002") "0671A1B10002", "4100414243", 15, 2},
     {"no data", S("23", "0002"), "", 13, 0},
     {"surplus", S("01", "0000"), "00", 16, 0},
+    {"packed decimal, cut", S("30", "0400"), "0123", 13, 0},
+    {"nullable packed decimal, cut", S("B0", "0400"), "000123", 13, 0},
+    {"bad digits, then a cut item", S("30", "0300") "0671A1B10002", "FFFF12", 13, 2},
+    {"bad digits and one byte", S("30", "0300"), "FFFF00", 16, 2},
+    {"null packed decimal and a body", S("B0", "0300"), "80123C", 16, 1},
 };
 
 static void test_refusals(void)
@@ -362,21 +376,24 @@ static const uint32_t numbers[] = {
     FDOCA_NO_SUCH_ITEM,
     FDOCA_WRONG_TYPE,
     FDOCA_BAD_FILE,
+    FDOCA_INVALID_DIGIT,
 };
 
 /* Each name has its number, and each number words of its own; those past the last share words that no other has. */
 static void test_words(void)
 {
-    expect(COUNT(numbers) == 20, "words", "20 numbers");
-    for (uint32_t n = 0; n < COUNT(numbers); n++) {
+    const uint32_t unknown = COUNT(numbers);
+
+    expect(unknown == 21, "words", "21 numbers");
+    for (uint32_t n = 0; n < unknown; n++) {
         bool own = fdoca_text(n)[0] != '\0';
 
         for (uint32_t m = 0; m < n; m++)
             own = own && strcmp(fdoca_text(n), fdoca_text(m)) != 0;
         expect(numbers[n] == n, "the number of", fdoca_text(n));
-        expect(own && strcmp(fdoca_text(n), fdoca_text(20)) != 0, "words", fdoca_text(n));
+        expect(own && strcmp(fdoca_text(n), fdoca_text(unknown)) != 0, "words", fdoca_text(n));
     }
-    expect(strcmp(fdoca_text(20), fdoca_text(UINT32_MAX)) == 0, "words", "unknown numbers");
+    expect(strcmp(fdoca_text(unknown), fdoca_text(UINT32_MAX)) == 0, "words", "unknown numbers");
 }
 
 int main(void)

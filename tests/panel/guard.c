@@ -21,10 +21,10 @@
 /* How many cases of one kind are told. */
 #define MOST_TOLD 3
 
-enum { LISTS = 4, ITEMS = 4, ANSWERS = 1 + LISTS + 3 * ITEMS };
+enum { LISTS = 4, ITEMS = 4, ITEM_CALLS = 4, ANSWERS = 1 + LISTS + ITEM_CALLS * ITEMS };
 
 /* What is looked at: that a call makes no fault, and what it gives. */
-enum kind { CHECK, LIST, STATE, LEND, WHOLE, SAME, KEPT, BEYOND, WITHIN, KINDS };
+enum kind { CHECK, LIST, STATE, LEND, WHOLE, PACKED, SAME, KEPT, BEYOND, WITHIN, KINDS };
 
 struct tally {
     const char *name;
@@ -37,6 +37,7 @@ static struct tally tallies[KINDS] = {
     [STATE] = {"fdoca_state stays within its bytes", 0, 0},
     [LEND] = {"fdoca_lend stays within its bytes", 0, 0},
     [WHOLE] = {"fdoca_whole_number stays within its bytes", 0, 0},
+    [PACKED] = {"fdoca_packed stays within its bytes", 0, 0},
     [SAME] = {"the answers are the same at both placements", 0, 0},
     [KEPT] = {"a refused list is as before", 0, 0},
     [BEYOND] = {"the entries beyond the list's are as before", 0, 0},
@@ -63,7 +64,7 @@ static uint8_t *descriptors, *blocks, *lists;
 
 static struct view at_end, at_beginning;
 static const char *placement;
-static unsigned long cases, large_descriptors, large_blocks, met[19];
+static unsigned long cases, large_descriptors, large_blocks, met[FDOCA_INVALID_DIGIT + 1];
 
 /* What the next call is given, and what it gave. */
 static const uint8_t *d, *s;
@@ -97,7 +98,12 @@ static void whole_number(void)
     got.number = fdoca_whole_number(d, d_size, s, s_size, item, &got.place, &got.results[0], &got.value);
 }
 
-static void (*const calls[])(void) = {check, list_items, state, lend, whole_number};
+static void packed(void)
+{
+    got.number = fdoca_packed(d, d_size, s, s_size, item, &got.place, &got.results[0], &got.value, &got.results[1]);
+}
+
+static void (*const calls[])(void) = {check, list_items, state, lend, whole_number, packed};
 
 static void print_hex(const uint8_t *bytes, size_t size)
 {
@@ -173,6 +179,7 @@ static void make_item_calls(uint32_t number, struct answer *answers)
     make(LEND, &answers[1]);
     tell(WITHIN, got.results[0] <= s_size && got.results[1] <= s_size - got.results[0]);
     make(WHOLE, &answers[2]);
+    make(PACKED, &answers[3]);
 }
 
 /* Makes every call on the case, with its bytes at the end or at the beginning of their room. */
@@ -188,7 +195,7 @@ static void make_calls(bool ends, struct view *view)
 
     make_lists(ends, n, view);
     for (size_t i = 0; i < ITEMS; i++)
-        make_item_calls(numbers[i], &view->answers[1 + LISTS + 3 * i]);
+        make_item_calls(numbers[i], &view->answers[1 + LISTS + ITEM_CALLS * i]);
 }
 
 static bool is_same(const struct view *one, const struct view *other)
@@ -261,10 +268,10 @@ static void expect_variety(unsigned long wanted)
     bool all_met = true;
 
     for (size_t i = 0; i < COUNT(met); i++)
-        all_met = all_met && met[i] > 0;
+        all_met = all_met && (met[i] > 0) == (i != FDOCA_BAD_FILE);
     expect(cases >= wanted, "cases", "as many as there must be");
     expect(large_descriptors > 0 && large_blocks > 0, "cases", "sizes over the limits");
-    expect(all_met, "cases", "every number from 0 to 18");
+    expect(all_met, "cases", "every number but 19, which no call gives");
 }
 
 int main(int argc, char **argv)

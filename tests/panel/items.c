@@ -1,6 +1,7 @@
 /*
  * Tests of the C calls that tell of one item: its state, where its value lies, its whole number. What these calls refuse
- * alike is in calls.c. The last line printed is "N passed, M failed", and the exit status is 0 if none failed.
+ * alike is in calls.c, the reading of packed decimals in packed.c. The last line printed is "N passed, M failed", and the
+ * exit status is 0 if none failed.
  */
 #include "support.h"
 
@@ -61,6 +62,14 @@ static const struct item_case numbers[] = {
     {"reversed, 8 bytes", S("24", "0008"), "0807060504030201", 0, 0, 0x24, 0, 8},
     {"reversed, nullable", S("A4", "0008"), "000807060504030201", 0, 0, 0xA4, 1, 8},
     {"reversed, null", S("A4", "0008"), "80", 0, 1, 0xA4, 1, 0},
+    {"packed, 1 digit", S("30", "0100"), "7C", 0, 0, 0x30, 0, 1},
+    {"packed, 2 digits", S("30", "0201"), "012C", 0, 0, 0x30, 0, 2},
+    {"packed, 17 digits", S("30", "1100"), "12345678901234567C", 0, 0, 0x30, 0, 9},
+    {"packed, 18 digits", S("30", "1212"), "0123456789012345678C", 0, 0, 0x30, 0, 10},
+    {"packed, bad digits", S("30", "0402"), "FFFFF0", 0, 0, 0x30, 0, 3},
+    {"packed, nullable", S("B0", "0503"), "0012345D", 0, 0, 0xB0, 1, 3},
+    {"packed, nullable, bad digits", S("B0", "0503"), "00ABCDE9", 0, 0, 0xB0, 1, 3},
+    {"packed, null", S("B0", "0503"), "80", 0, 1, 0xB0, 1, 0},
     {"hexadecimal float, 4 bytes", S("40", "0004"), "41100000", 0, 0, 0x40, 0, 4},
     {"hexadecimal float, 8 bytes", S("40", "0008"), "4110000000000000", 0, 0, 0x40, 0, 8},
     {"hexadecimal float, 16 bytes", S("40", "0010"), PI PI, 0, 0, 0x40, 0, 16},
@@ -94,6 +103,22 @@ static const struct item_case rows[] = {
     {"no bytes, at the end", M("02", "01", "0003") "0671A1B10002", "0001410000", 1, 0, 0x02, 5, 0},
 };
 
+static bool is_whole(uint32_t type)
+{
+    return type == FDOCA_TYPE_WHOLE || type == FDOCA_TYPE_WHOLE_REVERSED;
+}
+
+/* The calls that read numbers refuse a first item of another type, null or not. */
+static void test_wrong_type(const struct item_case *c, struct bytes d, struct bytes s)
+{
+    uint32_t type = fdoca_plain_type(c->type_code);
+
+    if (!is_whole(type))
+        expect(whole_gives(d, s, 0, 18, 0, 0, 0), "no whole number", c->name);
+    if (type != FDOCA_TYPE_PACKED)
+        expect(packed_gives(d, s, 0, 18, 0, 0, 0, 0), "no packed decimal", c->name);
+}
+
 static void test_items(const struct item_case *cases, size_t count)
 {
     for (size_t i = 0; i < count; i++) {
@@ -102,6 +127,8 @@ static void test_items(const struct item_case *cases, size_t count)
 
         expect(state_gives(d, s, c->item, 0, 0, c->is_null, c->type_code, c->length), "state", c->name);
         expect(lend_gives(d, s, c->item, 0, 0, c->offset, c->length), "lend", c->name);
+        if (c->item == 0)
+            test_wrong_type(c, d, s);
         free(d.at);
         free(s.at);
     }
@@ -147,6 +174,10 @@ static const struct whole_case wholes[] = {
     {"bytes", S("01", "0002") "0671A1B10002", "00000000", 1, 18, 2, 0, 0},
     {"null bytes", S("81", "0002") "0671A1B10002", "8080", 1, 18, 1, 0, 0},
     {"float", S("48", "0008"), "4065E23D70A3D70A", 0, 18, 0, 0, 0},
+    {"packed decimal", S("30", "0300") "0671A1B10002", "123C123C", 1, 18, 2, 0, 0},
+    {"packed decimal with bad digits", S("30", "0300") "0671A1B10002", "123CFFFF", 1, 18, 2, 0, 0},
+    {"null packed decimal", S("B0", "0300") "0671A1B10002", "00123C80", 1, 18, 3, 0, 0},
+    {"behind bad digits", S("30", "0300") "0C70B2230000000000000002" "0971A1B10001B20001", "FFFF0007", 1, 0, 0, 0, 7},
 };
 
 static void test_wholes(void)
@@ -216,9 +247,9 @@ static void test_whole_of_null(void)
 static bool is_named(uint32_t type)
 {
     static const uint32_t types[] = {
-        FDOCA_TYPE_FIXED,     FDOCA_TYPE_VARIABLE,       FDOCA_TYPE_TERMINATED,
-        FDOCA_TYPE_SHORT,     FDOCA_TYPE_WHOLE,          FDOCA_TYPE_WHOLE_REVERSED,
-        FDOCA_TYPE_HEX_FLOAT, FDOCA_TYPE_FLOAT_REVERSED, FDOCA_TYPE_FLOAT,
+        FDOCA_TYPE_FIXED, FDOCA_TYPE_VARIABLE,       FDOCA_TYPE_TERMINATED, FDOCA_TYPE_SHORT,
+        FDOCA_TYPE_WHOLE, FDOCA_TYPE_WHOLE_REVERSED, FDOCA_TYPE_PACKED,     FDOCA_TYPE_HEX_FLOAT,
+        FDOCA_TYPE_FLOAT, FDOCA_TYPE_FLOAT_REVERSED,
     };
 
     for (size_t i = 0; i < COUNT(types); i++)
@@ -227,20 +258,22 @@ static bool is_named(uint32_t type)
     return false;
 }
 
-/* The types with a name are those that a field of four bytes may have, plain and nullable. */
+/* The types with a name are those that a field of four bytes or one of four digits may have, plain and nullable. */
 static void test_types(void)
 {
-    struct bytes d = hex(S("00", "0004"));
+    struct bytes bytes = hex(S("00", "0004")), digits = hex(S("00", "0400"));
 
     for (uint32_t code = 0; code < 256; code++) {
         char name[8];
 
-        d.at[3] = (uint8_t)code;
+        bytes.at[3] = digits.at[3] = (uint8_t)code;
         snprintf(name, sizeof name, "X'%02X'", (unsigned)code);
-        expect(check_gives(d, 0, 0, 1) == is_named(fdoca_plain_type(code)) && fdoca_is_nullable(code) == (code > 127),
-               "type", name);
+        expect((check_gives(bytes, 0, 0, 1) || check_gives(digits, 0, 0, 1)) == is_named(fdoca_plain_type(code)), "type",
+               name);
+        expect(fdoca_is_nullable(code) == (code > 127), "nullable type", name);
     }
-    free(d.at);
+    free(bytes.at);
+    free(digits.at);
 }
 
 int main(void)

@@ -22,13 +22,17 @@ static void add(struct bytes *bytes, const uint8_t *triplet)
     bytes->size += triplet[0];
 }
 
+/* SDAs of id 1 whose items have 8 bytes: whole numbers, and packed decimals of 15 digits. */
+static const uint8_t wholes[] = {12, 0x70, 1, 0x23, 0, 0, 0, 0, 0, 0, 0, 8};
+static const uint8_t decimals[] = {12, 0x70, 1, 0x30, 0, 0, 0, 0, 0, 0, 15, 2};
+
 /* An SDA of id 1 and 254 rows, each of them the row before it and one item more: 255 levels. The last row repeats them, to
  * make 4,096 items. A row that is only another row once would be no level: the library enters the other at once. */
-static struct bytes nest(bool lower_first)
+static struct bytes nest(const uint8_t *sda, bool lower_first)
 {
     struct bytes bytes = {room(FDOCA_MAX_DESCRIPTOR), 0};
 
-    add(&bytes, (const uint8_t[]){12, 0x70, 1, 0x23, 0, 0, 0, 0, 0, 0, 0, 8});
+    add(&bytes, sda);
     for (unsigned id = 2; id <= 255; id++) {
         uint8_t own = (uint8_t)id, lower = (uint8_t)(id - 1);
         uint8_t times = id < 255 ? 1 : 16, more = id < 255 ? 1 : 32;
@@ -66,17 +70,27 @@ static void lend(void)
 
 static void whole_number(void)
 {
-    answered = whole_gives(descriptor, data, FDOCA_MAX_ITEMS - 1, 0, 0, 0, 7);
+    answered = whole_gives(descriptor, data, FDOCA_MAX_ITEMS - 1, 0, 0, 0, 0x7D);
+}
+
+static void packed(void)
+{
+    answered = packed_gives(descriptor, data, FDOCA_MAX_ITEMS - 1, 0, 0, 0, -7, 2);
 }
 
 struct call {
     const char *name;
+    const uint8_t *sda;
     void (*make)(void);
 };
 
 static const struct call calls[] = {
-    {"fdoca_check", check}, {"fdoca_list", list_all}, {"fdoca_state", state},
-    {"fdoca_lend", lend},   {"fdoca_whole_number", whole_number},
+    {"fdoca_check", wholes, check},
+    {"fdoca_list", wholes, list_all},
+    {"fdoca_state", wholes, state},
+    {"fdoca_lend", wholes, lend},
+    {"fdoca_whole_number", wholes, whole_number},
+    {"fdoca_packed", decimals, packed},
 };
 
 /* One call on a thread: the lowest byte of its stack, whether all went well, and what the call took. */
@@ -125,19 +139,23 @@ static size_t on_thread(struct job *job, size_t size)
 }
 
 /* Makes a call on one of the nests; tells in words how much stack it took. */
-static void test_call(const struct call *call, const char *nest, uint8_t *spacious, uint8_t *stated)
+static void test_call(const struct call *call, bool lower_first, uint8_t *spacious, uint8_t *stated)
 {
     char name[80];
     struct job job = {call->make, spacious, false, 0};
+
+    descriptor = nest(call->sda, lower_first);
+
     size_t thread = on_thread(&job, SPACIOUS);
 
-    snprintf(name, sizeof name, "%s, %s", call->name, nest);
+    snprintf(name, sizeof name, "%s, %s", call->name, lower_first ? "lower row first" : "lower row last");
     printf("%s: %zu bytes of stack, with the thread's own %zu of %d\n", name, job.taken, thread, FDOCA_STACK);
     expect(job.good, "call on the deepest nest", name);
     expect(thread <= FDOCA_STACK, "takes no more stack than stated", name);
     job.stack = stated;
     on_thread(&job, FDOCA_STACK);
     expect(job.good, "call with the stated stack", name);
+    free(descriptor.at);
 }
 
 int main(void)
@@ -145,13 +163,10 @@ int main(void)
     uint8_t *spacious = between_protected(SPACIOUS), *stated = between_protected(FDOCA_STACK);
 
     data = zeros(FDOCA_MAX_DATA);
-    data.at[FDOCA_MAX_DATA - 1] = 7;
-    for (int lower_first = 0; lower_first < 2; lower_first++) {
-        descriptor = nest(lower_first);
+    data.at[FDOCA_MAX_DATA - 1] = 0x7D;
+    for (int lower_first = 0; lower_first < 2; lower_first++)
         for (size_t i = 0; i < COUNT(calls); i++)
-            test_call(&calls[i], lower_first ? "lower row first" : "lower row last", spacious, stated);
-        free(descriptor.at);
-    }
+            test_call(&calls[i], lower_first, spacious, stated);
     free(data.at);
     return finish();
 }

@@ -116,4 +116,15 @@ static inline bool whole_gives(struct bytes d, struct bytes s, uint32_t item, ui
     return got == number && got_place == place && got_null == is_null && got_value == value;
 }
 
+static inline bool packed_gives(struct bytes d, struct bytes s, uint32_t item, uint32_t number, uint32_t place,
+                                uint32_t is_null, int64_t value, uint32_t fraction_digits)
+{
+    uint32_t got_place = OLD, got_null = OLD, got_fraction = OLD;
+    int64_t got_value = OLD_VALUE;
+    uint32_t got = fdoca_packed(d.at, d.size, s.at, s.size, item, &got_place, &got_null, &got_value, &got_fraction);
+
+    return got == number && got_place == place && got_null == is_null && got_value == value &&
+           got_fraction == fraction_digits;
+}
+
 #endif
