@@ -1,13 +1,14 @@
 /*
- * The kiosk's panel: reads a block file, prints the rows of its block, and sums a column of whole numbers.
+ * The kiosk's panel: reads a block file, prints the rows of its block, and sums a column of numbers.
  *
  *     panel FILE [ID]
  *
  * A block file holds the descriptor's size and the data's size, four bytes each, most significant byte first, then the
- * descriptor, then the data. Each item is printed as its SDA's id and its value: text in quotes, a whole number, the bytes
- * of a float in hexadecimal, or null. The column is every item whose SDA has the id ID, 1 to 255, written as 177 or 0xB1;
- * there must be one. A refusal is told in words, with its number and place, on standard error. Exit status: 0 all accepted;
- * 1 a refusal; 2 anything else that went wrong.
+ * descriptor, then the data. Each item is printed as its SDA's id and its value: text in quotes, a whole number, a packed
+ * decimal with its point, the bytes of a float in hexadecimal, or null. The column is every item whose SDA has the id ID,
+ * 1 to 255, written as 177 or 0xB1; there must be one. A refusal is told in words, with its number and place, on standard
+ * error. A packed decimal with bad digits is printed as refused, and the rows go on, but no column is summed. Exit status:
+ * 0 all accepted; 1 a refusal; 2 anything else that went wrong.
  */
 #include <inttypes.h>
 #include <stdbool.h>
@@ -27,17 +28,23 @@ struct block {
     size_t data_size;
 };
 
-/* What the calls tell of one item: the whole number if it is one, else where its value lies in the data. */
+/* A number without its decimal point, and how many digits stand behind that. */
+struct decimal {
+    int64_t digits;
+    uint32_t fraction_digits;
+};
+
+/* What the calls tell of one item: the number if it is one, else where its value lies in the data. */
 struct item {
     uint32_t is_null, type_code;
-    int64_t whole;
+    struct decimal number;
     uint32_t offset, length;
 };
 
 struct column {
     uint32_t items;
     uint32_t nulls;
-    int64_t sum;
+    struct decimal sum;
 };
 
 /* The part that a number's place is an offset in; NULL where there is no place to tell. */
@@ -45,7 +52,8 @@ static const char *part_of_place(uint32_t number)
 {
     if (number >= FDOCA_TRIPLET_TRUNCATED && number <= FDOCA_DESCRIPTOR_MISSING)
         return "descriptor";
-    if ((number >= FDOCA_DATA_TRUNCATED && number <= FDOCA_TRAILING_DATA) || number == FDOCA_WRONG_TYPE)
+    if ((number >= FDOCA_DATA_TRUNCATED && number <= FDOCA_TRAILING_DATA) || number == FDOCA_WRONG_TYPE ||
+        number == FDOCA_INVALID_DIGIT)
         return "data";
     return NULL;
 }
@@ -123,11 +131,11 @@ static int load(const char *name, struct block *block)
     return status;
 }
 
-static bool is_whole(uint32_t type_code)
+static bool is_number(uint32_t type_code)
 {
     uint32_t type = fdoca_plain_type(type_code);
 
-    return type == FDOCA_TYPE_WHOLE || type == FDOCA_TYPE_WHOLE_REVERSED;
+    return type == FDOCA_TYPE_WHOLE || type == FDOCA_TYPE_WHOLE_REVERSED || type == FDOCA_TYPE_PACKED;
 }
 
 static bool is_float(uint32_t type_code)
@@ -137,23 +145,52 @@ static bool is_float(uint32_t type_code)
     return type == FDOCA_TYPE_HEX_FLOAT || type == FDOCA_TYPE_FLOAT || type == FDOCA_TYPE_FLOAT_REVERSED;
 }
 
-/* Asks for an item's state, then for its whole number or where its value lies. Each is a walk over the block, which is
- * little for what a screen shows. */
+static uint32_t ask_state(const struct block *block, uint32_t k, uint32_t *place, struct item *item)
+{
+    uint32_t length;
+
+    return fdoca_state(block->descriptor, block->descriptor_size, block->data, block->data_size, k, place,
+                       &item->is_null, &item->type_code, &length);
+}
+
+/* Asks by the item's type code. An item that is no number is refused. */
+static uint32_t ask_number(const struct block *block, uint32_t k, uint32_t *place, struct item *item)
+{
+    struct decimal *number = &item->number;
+
+    if (fdoca_plain_type(item->type_code) == FDOCA_TYPE_PACKED)
+        return fdoca_packed(block->descriptor, block->descriptor_size, block->data, block->data_size, k, place,
+                            &item->is_null, &number->digits, &number->fraction_digits);
+    number->fraction_digits = 0;
+    return fdoca_whole_number(block->descriptor, block->descriptor_size, block->data, block->data_size, k, place,
+                              &item->is_null, &number->digits);
+}
+
+/* Asks for an item's state, then for its number or where its value lies. Each is a walk over the block, which is little for
+ * what a screen shows. */
 static int ask(const struct block *block, uint32_t k, struct item *item)
 {
-    uint32_t place, value;
-    uint32_t number = fdoca_state(block->descriptor, block->descriptor_size, block->data, block->data_size, k, &place,
-                                  &item->is_null, &item->type_code, &value);
+    uint32_t place;
+    uint32_t number = ask_state(block, k, &place, item);
 
-    if (number != FDOCA_ACCEPTED)
-        return refused("item", number, place);
-    if (is_whole(item->type_code))
-        number = fdoca_whole_number(block->descriptor, block->descriptor_size, block->data, block->data_size, k, &place,
-                                    &item->is_null, &item->whole);
-    else
-        number = fdoca_lend(block->descriptor, block->descriptor_size, block->data, block->data_size, k, &place,
-                            &item->offset, &item->length);
+    if (number == FDOCA_ACCEPTED)
+        number = is_number(item->type_code)
+                     ? ask_number(block, k, &place, item)
+                     : fdoca_lend(block->descriptor, block->descriptor_size, block->data, block->data_size, k, &place,
+                                  &item->offset, &item->length);
     return number == FDOCA_ACCEPTED ? ACCEPTED : refused("item", number, place);
+}
+
+static void print_decimal(struct decimal number)
+{
+    uint64_t size = number.digits < 0 ? 0 - (uint64_t)number.digits : (uint64_t)number.digits;
+    uint64_t one = 1;
+
+    for (uint32_t i = 0; i < number.fraction_digits; i++)
+        one *= 10;
+    printf("%s%" PRIu64, number.digits < 0 ? "-" : "", size / one);
+    if (number.fraction_digits > 0)
+        printf(".%0*" PRIu64, (int)number.fraction_digits, size % one);
 }
 
 /* Printable ASCII as it is, all other bytes, the quote and the backslash as \xNN. */
@@ -180,31 +217,42 @@ static void print_value(const struct block *block, const struct item *item)
 {
     if (item->is_null)
         printf("null");
-    else if (is_whole(item->type_code))
-        printf("%" PRId64, item->whole);
+    else if (is_number(item->type_code))
+        print_decimal(item->number);
     else if (is_float(item->type_code))
         print_hexadecimal(block->data + item->offset, item->length);
     else
         print_text(block->data + item->offset, item->length);
 }
 
+static int print_item(const struct block *block, uint32_t k)
+{
+    struct item item;
+    int status = ask(block, k, &item);
+
+    if (status == ACCEPTED)
+        print_value(block, &item);
+    else
+        printf("refused");
+    return status;
+}
+
 /* The calls tell of items, not of rows. To this example a row begins wherever the first item's id comes again, which is so
  * in a flat table. */
 static int print_rows(const struct block *block, const uint32_t *list)
 {
+    int status = ACCEPTED;
+
     printf("items %" PRIu32 " bytes %" PRIu32, list[0], list[1]);
     for (uint32_t k = 0; k < list[0]; k++) {
-        struct item item;
         uint32_t id = fdoca_item_id(list, k);
-        int status = ask(block, k, &item);
 
-        if (status != ACCEPTED)
-            return status;
         printf("%s%" PRIu32 " ", id == fdoca_item_id(list, 0) ? "\n" : "  ", id);
-        print_value(block, &item);
+        if (print_item(block, k) != ACCEPTED)
+            status = REFUSED;
     }
     printf("\n");
-    return ACCEPTED;
+    return status;
 }
 
 static bool add(int64_t *sum, int64_t value)
@@ -215,25 +263,28 @@ static bool add(int64_t *sum, int64_t value)
     return true;
 }
 
-static int add_item(const struct block *block, uint32_t item, struct column *column)
+/* All items of a column have the same SDA, hence the same count of fraction digits. */
+static int add_item(const struct block *block, uint32_t k, struct column *column)
 {
-    uint32_t place, is_null;
-    int64_t value;
-    uint32_t number = fdoca_whole_number(block->descriptor, block->descriptor_size, block->data, block->data_size, item,
-                                         &place, &is_null, &value);
+    struct item item;
+    uint32_t place;
+    uint32_t number = ask_state(block, k, &place, &item);
 
+    if (number == FDOCA_ACCEPTED)
+        number = ask_number(block, k, &place, &item);
     if (number != FDOCA_ACCEPTED)
         return refused("column", number, place);
-    if (!add(&column->sum, value))
+    if (!add(&column->sum.digits, item.number.digits))
         return unusable("the sum does not fit 64 bits");
+    column->sum.fraction_digits = item.number.fraction_digits;
     column->items++;
-    column->nulls += is_null;
+    column->nulls += item.is_null;
     return ACCEPTED;
 }
 
 static int print_sum(const struct block *block, const uint32_t *list, uint32_t id)
 {
-    struct column column = {0, 0, 0};
+    struct column column = {0, 0, {0, 0}};
 
     for (uint32_t k = 0; k < list[0]; k++) {
         if (fdoca_item_id(list, k) != id)
@@ -248,8 +299,9 @@ static int print_sum(const struct block *block, const uint32_t *list, uint32_t i
         fprintf(stderr, "no item has the id %" PRIu32 "\n", id);
         return UNUSABLE;
     }
-    printf("id %" PRIu32 " items %" PRIu32 " nulls %" PRIu32 " sum %" PRId64 "\n", id, column.items, column.nulls,
-           column.sum);
+    printf("id %" PRIu32 " items %" PRIu32 " nulls %" PRIu32 " sum ", id, column.items, column.nulls);
+    print_decimal(column.sum);
+    printf("\n");
     return ACCEPTED;
 }
 
