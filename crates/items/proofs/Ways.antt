@@ -11,7 +11,7 @@ use lib.Dec.{leb, eqb, lit≤}
 use lib.ListN.{length, getD, take, drop, length-take, length-drop}
 use borrow.Rule.Slice.PartAt.{part-to-end}
 use borrow.Author.Tests.{lt-ltb, le-ltb, le-leb, lt-leb, eq-eqb, ne-eqb, not-true, not-false}
-use Rattle.fdoca.specs.Basics.{if_then_else_, big}
+use Rattle.fdoca.specs.Basics.{if_then_else_, big, inBase}
 use Rattle.fdoca.specs.FieldType.{LengthField, signedTwo, unsignedOne, Layout}
 use Rattle.fdoca.specs.Item.{refused, item, Space, unbounded, limited, reserved, space, width, isOver, unused, measureBody, measureCounted, measureValue, indicated, measureNullable, measureItem}
 use Rattle.fdoca.specs.Item as defined
@@ -56,12 +56,12 @@ pub ruleset ranged-ways = (unbounded-sent, over-refused, reserved-sent, limited-
 
 -- the length fields, as the bytes that they have
 pub one-byte : (s : List ℕ) → 1 ≤ length s → big (take 1 s) ≡ getD s 0 0
-unfolding big
+unfolding big inBase
 one-byte [] l = absurd (let z : ⊥ = omega arith in z)
 one-byte (a ∷ s) l = omega arith
 
 two-bytes : (s : List ℕ) → 2 ≤ length s → big (take 2 s) ≡ getD s 0 0 * 256 + getD s 1 0
-unfolding big
+unfolding big inBase
 two-bytes [] l = absurd (let z : ⊥ = omega arith in z)
 two-bytes (a ∷ []) l = absurd (let z : ⊥ = omega arith in z)
 two-bytes (a ∷ b ∷ s) l = omega arith

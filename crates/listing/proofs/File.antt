@@ -10,14 +10,14 @@ use lib.ListN.{length, getD, take, drop, length-append, length-drop}
 use lib.Seq.{sets, length-take-le, take-append-le, drop-append-le}
 use borrow.Rule.Slice.PartAt.{part-to-end}
 use borrow.Author.Tests.{lt-ltb, le-ltb, eq-eqb, ne-eqb, ltb-false}
-use Rattle.fdoca.specs.Basics.{if_then_else_, big}
+use Rattle.fdoca.specs.Basics.{if_then_else_, big, inBase}
 use Rattle.fdoca.specs.Dump.{refusedLine, firstSize, secondSize, textOf, blockNotes, dump}
 use Rattle.listing.specs.Put.{Put, Told}
 
 -- ---- `size_in`
 
 pub four-bytes : (s : List ℕ) (a b : ℕ) → 4 ≡ length s → a ≡ big (getD s 0 0 ∷ getD s 1 0 ∷ []) → b ≡ big (getD s 2 0 ∷ getD s 3 0 ∷ []) → a * 65536 + b ≡ big s
-unfolding big
+unfolding big inBase
 four-bytes [] a b l e f = absurd (let z : ⊥ = omega arith in z)
 four-bytes (w ∷ []) a b l e f = absurd (let z : ⊥ = omega arith in z)
 four-bytes (w ∷ x ∷ []) a b l e f = absurd (let z : ⊥ = omega arith in z)
