@@ -291,7 +291,10 @@ fn field(id: u8, type_code: u8, parameters: &[u8; 8]) -> Option<Field> {
     let [0, 0, bias_high, bias_low, 0, mode, high, low] = *parameters else {
         return None;
     };
-    let length = u16::from_be_bytes([high, low]);
+    let length = match type_code & 0x7F {
+        0x30 => packed_length(high, low)?,
+        _ => u16::from_be_bytes([high, low]),
+    };
     let highest_bias = u16::from(matches!(type_code & 0x7F, 0x47 | 0x48));
     if id == 0 || u16::from_be_bytes([bias_high, bias_low]) > highest_bias {
         return None;
@@ -302,6 +305,7 @@ fn field(id: u8, type_code: u8, parameters: &[u8; 8]) -> Option<Field> {
         (0x03, 0..=32_767, 0 | 1) => Layout::Terminated,
         (0x07, 0..=255, 0 | 1) => Layout::Short,
         (0x23 | 0x24, 2 | 4 | 8, 0) => Layout::Fixed,
+        (0x30, _, 0) => Layout::Fixed,
         (0x40, 4 | 8 | 16, 0) => Layout::Fixed,
         (0x47 | 0x48, 4 | 8, 0) => Layout::Fixed,
         _ => return None,
@@ -314,4 +318,10 @@ fn field(id: u8, type_code: u8, parameters: &[u8; 8]) -> Option<Field> {
         is_reserved: mode == 0 && !is_free,
         limit: if is_free { FREE } else { length },
     })
+}
+
+/// The bytes of a packed decimal, if its digits and fraction digits are good.
+fn packed_length(digits: u8, fraction_digits: u8) -> Option<u16> {
+    let is_good = (1..=18).contains(&digits) && fraction_digits <= digits;
+    is_good.then(|| u16::from(digits / 2 + 1))
 }
