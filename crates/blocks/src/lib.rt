@@ -196,6 +196,9 @@ pub fn whole_number(descriptor: &[u8], data: &[u8], item: u32) -> Whole
     }
 }
 
+// The row of X'30'.
+const PACKED: u8 = 7;
+
 // Where an entry's part of digits begins: whether they are odd in number, then the fraction digits.
 const DIGITS: u64 = 4398046511104;
 
@@ -247,7 +250,7 @@ pub fn packed(descriptor: &[u8], data: &[u8], item: u32) -> Decimal
         return no_decimal(found.number, found.place as usize);
     }
     let row = field_types::row_of((found.entry / 16777216 % 256) as u8);
-    if row != 7 {
+    if row != PACKED {
         return no_decimal(18, found.start);
     }
     let digits = found.entry / DIGITS % 64;

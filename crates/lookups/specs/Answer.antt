@@ -11,7 +11,7 @@ use Rattle.plans.specs.Plan.{digitsPart}
 use Rattle.walks.specs.declared.Found.{Found}
 use Rattle.walks.specs.Finding.{foundOf, stateFound}
 
--- What was found of an item of the data s: it lies within the data.
+-- What was found of an item of the data s: it lies within the data, and its entry tells its field's size.
 pub record FoundAs (x : Result Note) (s : List ℕ) (r : Found) : Type 0 where
   pub found : r ≡ foundOf x
   pub inside : r .start + r .prefix + r .value ≤ length s
