@@ -130,7 +130,7 @@ fn is_bound(tokens: &[Token], place: usize) -> bool {
         let is_second = first == Some(place);
         match tokens[start].text {
             "leb" | "ltb" => is_first || is_second,
-            "take" | "drop" | "upTo" => is_first,
+            "take" | "drop" | "upTo" | "digitsUpTo" | "allBelow" => is_first,
             "getD" => is_second,
             _ => false,
         }
