@@ -90,8 +90,6 @@ module _ (d x : List ℕ) (i : ℕ) (f : Found) (w : FoundAs (itemAt d x i) x f)
         fraction : ℕ
         size-is : t .note .field .size ≡ digits p fraction
         few : p ≤ 18
-        fewer : fraction ≤ p
-        length-told : f .entry % 65536 ≡ p / 2 + 1
         odd-told : f .entry / 4398046511104 % 64 % 2 ≡ p % 2
         fraction-told : f .entry / 4398046511104 % 64 / 2 ≡ fraction
 
@@ -104,15 +102,12 @@ module _ (d x : List ℕ) (i : ℕ) (f : Found) (w : FoundAs (itemAt d x i) x f)
           go (digits p q) e =
               let a : (leb 1 p && leb p 18 && leb q p) ≡ true = rw (type-is, e) at (t .good .field-good .allowed) in
               let b : (leb 1 p && leb p 18) ≡ true = and-left (leb 1 p && leb p 18) (leb q p) a in
-              let l : f .entry % 65536 ≡ p / 2 + 1 = rw e at (t .size-is .0) in
-              let m : f .entry / 4398046511104 % 64 ≡ p % 2 + 2 * q = rw e at (t .size-is .1) in
+              let m : f .entry / 4398046511104 % 64 ≡ p % 2 + 2 * q = rw e at (t .digits-are) in
               record {
                 p = p;
                 fraction = q;
                 size-is = e;
                 few = leb-true p 18 (and-right (leb 1 p) (leb p 18) b);
-                fewer = leb-true q p (and-right (leb 1 p && leb p 18) (leb q p) a);
-                length-told = l;
                 odd-told = omega arith;
                 fraction-told = omega arith;
               }

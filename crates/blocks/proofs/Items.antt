@@ -9,7 +9,6 @@ use lib.ListN.{take, drop}
 use Rattle.fdoca.specs.declared.State.{State}
 use Rattle.fdoca.specs.Basics.{Result, refuse, ok}
 use Rattle.fdoca.specs.FieldType.{typeOf}
-use Rattle.fdoca.specs.Item.{fieldLength}
 use Rattle.fdoca.specs.Walk.{Note}
 use Rattle.fdoca.specs.Calls.{itemAt, valueOf, stateOf}
 use Rattle.fdoca.proofs.Fields.{GoodNote, item-good}
@@ -29,7 +28,7 @@ module _ (d x : List ℕ) (i : ℕ) (f : Found) where
     pub code-is : f .entry / 16777216 % 256 ≡ note .field .code
     pub value-is : take (f .value) (drop (f .start + f .prefix) x) ≡ valueOf x note
     pub length-is : f .value ≡ note .value
-    pub size-is : (f .entry % 65536 ≡ fieldLength (note .field)) × (f .entry / 4398046511104 % 64 ≡ digitsPart (note .field .size))
+    pub digits-are : f .entry / 4398046511104 % 64 ≡ digitsPart (note .field .size)
     pub good : GoodNote note
 
   pub the-item : FoundAs (itemAt d x i) x f → f .number ≡ 0 → TheItem
@@ -48,7 +47,7 @@ module _ (d x : List ℕ) (i : ℕ) (f : Found) where
             code-is = ap (λ (s : State). s .code) b;
             value-is = rw a;
             length-is = rw a;
-            size-is = w .size n e;
+            digits-are = w .digits n e;
             good = item-good d x i n e;
           }
 

@@ -54,7 +54,7 @@ module _ (d x : List ℕ) (i : ℕ) where
   nothing-found n p r e q =
       let a : r .start + r .prefix + r .value ≤ length x = rw q (omega arith) in
       let b : r .start + r .prefix + r .value ≤ 32768 = rw q (omega arith) in
-      rw e (record { found = q; inside = a; small = b; state = rw q; size = λ m z. absurd (let z : _≡_ {A = ℕ} 0 1 = cc in let w : ⊥ = omega arith in w) })
+      rw e (record { found = q; inside = a; small = b; state = rw q; digits = λ m z. absurd (let z : _≡_ {A = ℕ} 0 1 = cc in let w : ⊥ = omega arith in w) })
 
   pub item-over : (r : Found) → 32768 < length x → r ≡ foundOf (refuse 1 0) → FoundAs (itemAt d x i) x r
   unfolding itemAt

@@ -14,7 +14,7 @@ use Rattle.descriptors.specs.Holds.{Ready}
 use Rattle.descriptors.proofs.Callers.{for-unfolding}
 use Rattle.walks.specs.declared.Found.{Found}
 use Rattle.walks.specs.Finding.{foundOf, itemOf, IsPlan}
-use Rattle.walks.proofs.Callers.{found-inside, found-state, found-size}
+use Rattle.walks.proofs.Callers.{found-inside, found-state, found-digits}
 use Rattle.lookups.specs.Answer.{FoundAs}
 
 module _ (d s z e plan : List ℕ) (id : ℕ) (rd : Ready d s z e id (length plan)) where
@@ -35,5 +35,5 @@ module _ (d s z e plan : List ℕ) (id : ℕ) (rd : Ready d s z e id (length pla
           inside = found-inside plan′ (unfolded d) x k r p h;
           small = omega (arith, found-inside plan′ (unfolded d) x k r p h);
           state = found-state plan′ (unfolded d) x k r p h;
-          size = found-size plan′ (unfolded d) x k r p h;
+          digits = found-digits plan′ (unfolded d) x k r p h;
         }

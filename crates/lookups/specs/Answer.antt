@@ -4,17 +4,16 @@ use mathlib.Core.Path.{_≡_}
 use mathlib.Core.List.{List}
 use lib.ListN.{length}
 use Rattle.fdoca.specs.Basics.{Result, ok}
-use Rattle.fdoca.specs.Item.{fieldLength}
 use Rattle.fdoca.specs.Walk.{Note}
 use Rattle.fdoca.specs.Calls.{stateOf}
 use Rattle.plans.specs.Plan.{digitsPart}
 use Rattle.walks.specs.declared.Found.{Found}
 use Rattle.walks.specs.Finding.{foundOf, stateFound}
 
--- What was found of an item of the data s: it lies within the data, and its entry tells its field's size.
+-- What was found of an item of the data s: it lies within the data, and its entry tells of its field's digits.
 pub record FoundAs (x : Result Note) (s : List ℕ) (r : Found) : Type 0 where
   pub found : r ≡ foundOf x
   pub inside : r .start + r .prefix + r .value ≤ length s
   pub small : r .start + r .prefix + r .value ≤ 32768
   pub state : stateFound r ≡ stateOf x
-  pub size : (n : Note) → x ≡ ok n → (r .entry % 65536 ≡ fieldLength (n .field)) × (r .entry / 4398046511104 % 64 ≡ digitsPart (n .field .size))
+  pub digits : (n : Note) → x ≡ ok n → r .entry / 4398046511104 % 64 ≡ digitsPart (n .field .size)

@@ -10,7 +10,7 @@ use mathlib.Core.List.{List, [], _∷_}
 use mathlib.Core.Option.{Option, none, some}
 use mathlib.Core.Logic.{_⊎_, inl, inr}
 use lib.Dec.{ltb, eqb, lit<, lit≤}
-use lib.IntN.{ℤ, pos, _-ℤ_}
+use lib.IntN.{pos, _-ℤ_}
 use lib.ListN.{length, getD, take, drop, length-drop, length-take}
 use lib.Seq.{take-suc, take-all, getD-take, getD-drop, length-take-le}
 use mir.Syntax.{w64}
@@ -68,9 +68,9 @@ module _ (s : List ℕ) (from p : ℕ) where
         go true t = absurd (let z : ⊥ = omega (arith, below-at 10 digitsFrom i (lit< tt) t, digit-at i d l e) in z)
         go false t = refl
 
-    pub digits-more : (i n d : ℕ) → i < p → d ≡ getD (halfBytes s) (from + i) 0 → d ≤ 9 → allBelow 10 (take i digitsFrom) ≡ true
+    pub digits-more : (i d : ℕ) → i < p → d ≡ getD (halfBytes s) (from + i) 0 → d ≤ 9 → allBelow 10 (take i digitsFrom) ≡ true
         → allBelow 10 (take (i + 1) digitsFrom) ≡ true
-    digits-more i n d l e h t =
+    digits-more i d l e h t =
         let k : getD digitsFrom i 0 < 10 = omega (arith, digit-at i d l e) in
         let one : allBelow 10 (getD digitsFrom i 0 ∷ []) ≡ true = rw (lt-ltb (getD digitsFrom i 0) 10 k) in
         rw (add-one, take-suc digitsFrom i 0 (omega (arith, all-there))) (below-append 10 (take i digitsFrom) (getD digitsFrom i 0 ∷ []) t one)
@@ -101,9 +101,6 @@ module _ (p i n : ℕ) (few : p ≤ 18) (left : i < p) (l : n < 10 ^ i) where
 
 -- a number with its sign
 module _ (n : ℕ) (small : n < 1000000000000000000) where
-  abbrev minus-n : ℤ
-  minus-n = pos 0 -ℤ toZ w64 n
-
   is-minus : (m : ℕ) → m < 1000000000000000000 → SFits w64 (pos 0 -ℤ pos m)
   is-minus zero l = record { sfits = lit< tt }
   is-minus (suc m) l = rw (below 0 (suc m) (omega arith)) (record { sfits = omega arith })

@@ -8,7 +8,7 @@ use native.Mathlib.Omega.{arith}
 use lib.Dec.{ltb}
 use lib.ListN.{length, drop, getElem?, length-map}
 use Rattle.fdoca.specs.Basics.{Result, refuse, ok, the}
-use Rattle.fdoca.specs.Item.{Field, fieldLength, measure}
+use Rattle.fdoca.specs.Item.{Field, measure}
 use Rattle.fdoca.specs.Walk.{Note, itemLength, noteOf, cutFrom, walk}
 use Rattle.fdoca.specs.Calls.{stateOf}
 use Rattle.fdoca.proofs.Results.{IfOk, none-owed, holds, bind-all, reject-all, itself, ok-of}
@@ -18,7 +18,7 @@ use Rattle.plans.specs.Plan.{digitsPart, entryOf, Proper, Planned, empty, entry
 use Rattle.walks.specs.declared.Found.{Found}
 use Rattle.walks.specs.Marks.{markOf, marksFrom, Noted, nothing, item}
 use Rattle.walks.specs.Finding.{foundOf, itemOf, stateFound}
-use Rattle.walks.proofs.Parts.{length-part, code-part, digits-part}
+use Rattle.walks.proofs.Parts.{code-part, digits-part}
 
 planned-length : {es : List ℕ} {fs : List Field} → Planned es fs → length es ≡ length fs
 planned-length empty = refl
@@ -106,9 +106,9 @@ module _ (es : List ℕ) (fs : List Field) (s : List ℕ) (k : ℕ) (r : Found) 
   pub found-state : stateFound r ≡ stateOf (itemOf fs s k)
   found-state = rw h (state-of s (itemOf fs s k) (sound es fs s k p))
 
-  pub found-size : (n : Note) → itemOf fs s k ≡ ok n → (r .entry % 65536 ≡ fieldLength (n .field)) × (r .entry / 4398046511104 % 64 ≡ digitsPart (n .field .size))
+  pub found-digits : (n : Note) → itemOf fs s k ≡ ok n → r .entry / 4398046511104 % 64 ≡ digitsPart (n .field .size)
   unfolding foundOf
-  found-size n e =
+  found-digits n e =
       let q : Proper (n .field) = ok-of (rw e at (sound es fs s k p)) .proper in
       let l : r .entry ≡ entryOf (n .field) = rw (h, e) in
-      (omega (arith, length-part (n .field) 0 q), omega (arith, digits-part (n .field) 0 q))
+      omega (arith, digits-part (n .field) 0 q)
