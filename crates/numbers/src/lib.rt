@@ -102,7 +102,7 @@ pub struct Unpacked {
     pub value: i64,
 }
 
-// More than 18 digits are.
+// A number that 18 digits do not reach.
 const NO_NUMBER: u64 = 1000000000000000000;
 
 fn not_valid() -> Unpacked
