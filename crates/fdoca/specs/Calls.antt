@@ -38,7 +38,7 @@ list d s old = do
   ns ← walk (unfolded d) s
   ok (itemList n (length s) ns old)
 
--- The note of item k, numbered from 0: what the state call, lending and the whole-number read go by.
+-- The note of item k, numbered from 0: what the state call, lending and the reads of numbers go by.
 unfoldable pub itemAt : List ℕ → List ℕ → (k : ℕ) → Result Note
 itemAt d s k = do
   reject (oversize d s) 1 0

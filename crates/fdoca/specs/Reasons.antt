@@ -1,6 +1,7 @@
 -- Document 01's table "Numbers a caller can meet", and 20 by document 02, row by row: for each number its column "When", said of a triplet, a group, an
--- item or a call by itself, with its place and without regard to the other rows; then 01's order. Bytes are read at their places. The unfolding and the
--- standard's account of an item are taken from their own files; nothing is taken from the check, from measuring, or from the calls.
+-- item or a call by itself, with its place and without regard to the other rows; then 01's order. Bytes are read at their places. The unfolding, a
+-- field's length in bytes, the split of bytes into halves and the standard's account of an item are taken from their own files; nothing is taken from the
+-- check, from measuring, or from the calls.
 use mathlib.Core.Path.{_≡_}
 use mathlib.Core.Logic.{_≢_, _⊎_}
 use Prim.Native.Nat.{ℕ, zero, suc, _+_, _*_, _≤_, _<_}

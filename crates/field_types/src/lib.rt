@@ -524,7 +524,7 @@ fn rule_allows(rule: Rule, bias: usize, mode: u8, a: usize, b: usize) -> bool
     size_allowed(rule, a, b)
 }
 
-// The layout's number of an SDA whose type parameters are eight bytes that its field type allows, else NO_LAYOUT.
+// The layout's number of an SDA whose type parameters are eight bytes that its field type allows, DIGITS of a packed decimal, else NO_LAYOUT.
 pub fn layout_of(rows: &[u8; 256], code: u8, ps: &[u8]) -> u8
     requires { ⌜ RowTable (now rows) ⌝ }
     ensures { λ r. ⌜ r ≡ layoutIf (goodEight code (now (ps .entry))) code ⌝ }

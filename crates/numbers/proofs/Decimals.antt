@@ -119,11 +119,9 @@ module _ (n : ℕ) (small : n < 1000000000000000000) where
         go none q = e
         go (some s) q = absurd (let z : ⊥ = omega (arith, sign-high sign s q) in z)
 
-    pub minus-B : (r : Unpacked) → sign ≡ 0xB → r ≡ unpacked (signedBy n (some minus)) → r ≡ unpacked (signedBy n (lookup sign signs))
-    minus-B r q e = rw q e
-
-    pub minus-D : (r : Unpacked) → sign ≡ 0xD → r ≡ unpacked (signedBy n (some minus)) → r ≡ unpacked (signedBy n (lookup sign signs))
-    minus-D r q e = rw q e
+    pub minus-sign : (r : Unpacked) (k : ℕ) → sign ≡ k → lookup k signs ≡ some minus → r ≡ unpacked (signedBy n (some minus))
+        → r ≡ unpacked (signedBy n (lookup sign signs))
+    minus-sign r k q m e = rw (q, m) e
 
     abbrev MinusAt : ℕ → Sign → Type 0
     MinusAt k plus = Unit {0}

@@ -1,5 +1,5 @@
 use borrow.Author.Needs.{needs}
-use Rattle.numbers.proofs.Decimals.{no-sign-read, minus-B, minus-D, plus-read}
+use Rattle.numbers.proofs.Decimals.{no-sign-read, minus-sign, plus-read}
 use Rattle.numbers.proofs.with_sign.Statement.{statement}
 use Rattle.numbers.proofs.with_sign.Tie as tie
 
@@ -13,13 +13,13 @@ negative-requires : tie.Need-negative-requires
 negative-requires c κs = search needs
 
 returns-2 : tie.Need-returns-2
-returns-2 c = search (minus-B)
+returns-2 c = search (minus-sign)
 
 negative-requires-2 : tie.Need-negative-requires-2
 negative-requires-2 c κs = search needs
 
 returns-3 : tie.Need-returns-3
-returns-3 c = search (minus-D)
+returns-3 c = search (minus-sign)
 
 cast-t4 : tie.Need-cast-t4
 cast-t4 c = search needs
