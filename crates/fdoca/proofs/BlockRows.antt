@@ -24,7 +24,7 @@ use Rattle.fdoca.proofs.Results.{IfOk, holds, bind-all, itself, ok-of, 
 use Rattle.fdoca.proofs.Cover.{joined, cut-append, walk-covers}
 use Rattle.fdoca.proofs.Stops.{StopsAt, Stopped, at-item, walk-stops}
 use Rattle.fdoca.proofs.Blocks.{CutBlock, cut-block, cut-parts}
-use Rattle.fdoca.proofs.Fields.{GoodField, AllGood, good-at}
+use Rattle.fdoca.proofs.Fields.{GoodField, mode-known, AllGood, good-at}
 use Rattle.fdoca.proofs.ItemTests.{Earliest}
 use Rattle.fdoca.proofs.ItemRows.{item-no-reason, item-first-reason}
 
@@ -125,7 +125,7 @@ module _ {fs : List Field} {s : List ℕ} {k q : ℕ} {f : Field} {rest : List �
   none-against g more c e =
       let n : Noted (found .notes) c = ok-of (rw e at (cut-with more)) in
       let (z, p, v, r, h, _, _) = noted-as f q (measure f rest) (n .note) (n .noted) in
-      item-no-reason f (field-good g .typed) (field-good g .mode-known) rest z p v r h
+      item-no-reason f (field-good g .typed) (mode-known (field-good g)) rest z p v r h
 
   all-cut : (c : Cut) → cutFrom 0 fs s ≡ ok c → cutFrom 0 (x .before ++ (f ∷ x .after)) s ≡ ok c
   all-cut c e = sym (ap (λ l. cutFrom 0 l s) (x .fields)) ∙ e
@@ -165,7 +165,7 @@ module _ (fs : List Field) (s : List ℕ) (g : AllGood fs) where
     earliest : Earliest (OfItem (h .field) (h .good .rest)) m
     earliest =
         let k : GoodField (h .field) = field-good start g in
-        item-first-reason (h .field) (k .typed) (k .mode-known) (h .good .rest) m (h .reason)
+        item-first-reason (h .field) (k .typed) (mode-known k) (h .good .rest) m (h .reason)
 
     abbrev turn : List ℕ
     turn = 5 ∷ length (h .before) ∷ earliest .step ∷ []

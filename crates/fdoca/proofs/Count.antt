@@ -11,7 +11,7 @@ use mathlib.Core.Option.{Option, none, some}
 use lib.Dec.{ltb, eqb}
 use lib.ListN.{length, length-append, length-replicate}
 use Rattle.fdoca.specs.Basics.{if_then_else_, elem, lookup, repeat, product, ok}
-use Rattle.fdoca.specs.Triplet.{Triplet, torn, triplet, triplets, Construct, SDA, RLO, ISD, CPT, constructOf, idOf, codeOf, extentsOf, Group, groupsOf}
+use Rattle.fdoca.specs.Triplet.{Triplet, torn, triplet, triplets, Construct, SDA, RLO, ISD, CPT, constructOf, idOf, codeOf, parametersOf, extentsOf, Group, groupsOf}
 use Rattle.fdoca.specs.FieldType.{FieldType, typeOf}
 use Rattle.fdoca.specs.Item.{Field}
 use Rattle.fdoca.specs.Between.{entry, entries, rowCounted, state}
@@ -72,15 +72,17 @@ add-groups p ds l (g ∷ gs) =
     (λ m e. let e′ : m ≡ length (l ++ U.groupFields ds g) = e ∙ sym (length-append l (U.groupFields ds g)) in
     rw e′ (add-groups p ds (l ++ U.groupFields ds g) gs)))
 
--- a type code without a rule is refused
-no-rule : (a b : Bool) → (a && false && b) ≡ false
-no-rule true b = refl
-no-rule false b = refl
+-- a type or parameters that are not good are refused, and so is a type code without a rule
+pub bad-type : (t : List ℕ) → C.goodType (typeOf (codeOf t)) (parametersOf t) ≡ false → C.goodSDA t ≡ false
+bad-type t e = rw e (no-rule (not (eqb (idOf t) 0)) (not (elem 0 (extentsOf t))))
+  where
+    no-rule : (a b : Bool) → (a && false && b) ≡ false
+    no-rule true b = refl
+    no-rule false b = refl
 
 pub no-type-refused : (t : List ℕ) → typeOf (codeOf t) ≡ none → not (C.goodSDA t) ≡ false → ⊥
 no-type-refused t e h =
-    let g : C.goodSDA t ≡ false = rw e (no-rule (not (eqb (idOf t) 0)) (not (elem 0 (extentsOf t)))) in
-    true≢false (sym (ap not g) ∙ h)
+    true≢false (sym (ap not (bad-type t (rw e))) ∙ h)
 
 check-SDA : (u : U.Layouts) (p : ℕ) (t : List ℕ) (o : Option FieldType) → typeOf (codeOf t) ≡ o
     → IfOk (λ st. st ≡ state (U.unfoldSDA o u t)) (C.checkSDA (entries (U.closed u)) p t)

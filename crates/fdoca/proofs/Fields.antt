@@ -1,19 +1,18 @@
--- The fields of an accepted descriptor: each has the type of its code, a size that the type allows, and mode 0 or 1. A value of fixed length has
+-- The fields of an accepted descriptor: each has the type of its code, a size and a mode that the type allows. A value of fixed length has
 -- the field length.
 -- Assumes nothing.
 use mathlib.Core.Path.{_≡_, refl, sym, ap, _∙_}
 use mathlib.Core.Logic.{_⊎_, inl, inr}
-use Prim.Native.Nat.{ℕ, zero, suc, _+_, _*_, _≤_}
+use Prim.Native.Nat.{ℕ, zero, suc, _+_, _*_, _/_, _%_, _≤_}
 use native.Mathlib.Omega.{arith}
 use mathlib.Core.Bool.{Bool, true, false, not, _&&_, true≢false}
 use mathlib.Core.List.{List, [], _∷_, _++_}
 use mathlib.Core.Option.{Option, none, some}
-use lib.Dec.{leb, ltb, eqb}
-use lib.ListN.{length, drop, replicate, getD, getElem?}
-use borrow.Author.Tests.{leb-true}
+use lib.Dec.{ltb, eqb}
+use lib.ListN.{length, drop, replicate, getElem?}
 use Rattle.fdoca.specs.Basics.{if_then_else_, elem, lookup, repeat, product, ok, _>>=_, _>>_, the}
-use Rattle.fdoca.specs.FieldType.{FieldType, fixedBytes, variableBytes, terminatedBytes, shortBytes, integer, reversedInteger, packedDecimal, hexFloat, reversedFloat, binaryFloat, Layout, fixed, counted, terminated, bytes, digits, Rule, allows, typeOf, ruleOf, nullable}
-use Rattle.fdoca.specs.Triplet.{Triplet, torn, triplet, triplets, Construct, SDA, RLO, ISD, CPT, constructOf, idOf, codeOf, parametersOf, modeOf, biasOf, sizeIn, extentsOf, Group, groupsOf}
+use Rattle.fdoca.specs.FieldType.{FieldType, fixedBytes, variableBytes, terminatedBytes, shortBytes, integer, reversedInteger, packedDecimal, hexFloat, reversedFloat, binaryFloat, Layout, fixed, counted, terminated, Size, bytes, digits, Sizes, upTo, oneOf, digitsUpTo, sizeOf, allows, typeOf, ruleOf, nullable}
+use Rattle.fdoca.specs.Triplet.{Triplet, torn, triplet, triplets, Construct, SDA, RLO, ISD, CPT, constructOf, idOf, codeOf, parametersOf, extentsOf, Group, groupsOf}
 use Rattle.fdoca.specs.Item.{Field, fieldLength, Measured, refused, item, indicated, measureFixed, measureValue, measureNullable, measureItem, measure}
 use Rattle.fdoca.specs.Walk.{Note, itemLength, noteOf, with, cutFrom, walk}
 use Rattle.fdoca.specs.Calls.{oversize, itemAt}
@@ -21,13 +20,22 @@ use Rattle.fdoca.specs.Check as C
 use Rattle.fdoca.specs.Unfolding.{Described, array, row, fieldsOf, fieldsTaken, fieldsReferred, groupFields, addFields, fieldOf, Layouts, closeRow, closed, unfoldSDA, unfoldRLO, unfoldCPT, unfoldConstruct, unfoldTriplet, unfoldTriplets, start, lastFields, unfolded}
 use Rattle.fdoca.proofs.Results.{IfOk, none-owed, holds, bind-all, reject-all, ok-of, both-all, always}
 use Rattle.fdoca.proofs.Tests.{by-test, by-le, and-left, and-right}
+use Rattle.fdoca.specs.Reasons.{Allowed}
 use Rattle.fdoca.specs.Between.{entries, state}
+use Rattle.fdoca.proofs.TypeRows.{good-parts, rule-allows}
 use Rattle.fdoca.proofs.Count.{closed-state, check-triplet}
 
 pub record GoodField (f : Field) : Type 0 where
   pub typed : typeOf (f .code) ≡ some (f .type)
   pub allowed : allows (ruleOf (f .type) .sizes) (f .size) ≡ true
-  pub mode-known : f .mode ≤ 1
+  pub mode-allowed : f .mode ≤ C.most (ruleOf (f .type) .hasMode)
+
+pub mode-known : {f : Field} → GoodField f → f .mode ≤ 1
+mode-known {f} g = go (ruleOf (f .type) .hasMode) (g .mode-allowed)
+  where
+    go : (has : Bool) → f .mode ≤ C.most has → f .mode ≤ 1
+    go true h = h
+    go false h = omega arith
 
 pub data AllGood : List Field → Type 0 where
   nil : AllGood []
@@ -121,18 +129,6 @@ good-add ds l (x ∷ gs) g a =
     good-add ds (l ++ groupFields ds x) gs g (good-append a (good-repeat (x .factor) _ (good-referred (x .taken) (x .ref) ds g)))
 
 -- the parts of a good SDA
-most-one : (has : Bool) → C.most has ≤ 1
-most-one true = omega arith
-most-one false = omega arith
-
-good-parameters : (r : Rule) (ps : List ℕ) → C.goodParameters r ps ≡ true → (allows (r .sizes) (sizeIn (r .sizes) ps) ≡ true) × (modeOf ps ≤ 1)
-unfolding C.goodParameters
-good-parameters r ps h =
-    let front : Bool = eqb (getD ps 0 0) 0 && eqb (getD ps 1 0) 0 && leb (biasOf ps) (C.most (r .hasBias)) && eqb (getD ps 4 0) 0 in
-    let mode : Bool = leb (modeOf ps) (C.most (r .hasMode)) in
-    let m : leb (modeOf ps) (C.most (r .hasMode)) ≡ true = and-right front mode (and-left (front && mode) (allows (r .sizes) (sizeIn (r .sizes) ps)) h) in
-    (and-right (front && mode) (allows (r .sizes) (sizeIn (r .sizes) ps)) h, omega (arith, leb-true, most-one (r .hasMode)))
-
 not-false-is : (b : Bool) → not b ≡ false → b ≡ true
 not-false-is true h = refl
 not-false-is false h = absurd (true≢false h)
@@ -141,8 +137,8 @@ pub good-SDA : (t : List ℕ) (T : FieldType) → typeOf (codeOf t) ≡ some T �
 good-SDA t T e h =
     let a : (not (eqb (idOf t) 0) && C.goodType (typeOf (codeOf t)) (parametersOf t)) ≡ true = and-left _ (not (elem 0 (extentsOf t))) h in
     let b : C.goodType (typeOf (codeOf t)) (parametersOf t) ≡ true = and-right (not (eqb (idOf t) 0)) _ a in
-    let c = good-parameters (ruleOf T) (parametersOf t) (sym (ap (λ o. C.goodType o (parametersOf t)) e) ∙ b) in
-    record { typed = e; allowed = c .0; mode-known = c .1 }
+    let c = good-parts (ruleOf T) (parametersOf t) (sym (ap (λ o. C.goodType o (parametersOf t)) e) ∙ b) in
+    record { typed = e; allowed = c .size-allowed; mode-allowed = c .mode }
 
 good-unfold-SDA : (u : Layouts) (p : ℕ) (t : List ℕ) (o : Option FieldType) → typeOf (codeOf t) ≡ o → GoodLayouts u
     → IfOk (λ st. GoodLayouts (unfoldSDA o u t)) (C.checkSDA (entries (closed u)) p t)
@@ -203,11 +199,26 @@ fields-good d n e = ok-of (rw e at (good-check d))
 -- No field of an accepted descriptor has a mode other than 0 and 1.
 pub modes-known : (d : List ℕ) (n : ℕ) → C.check d ≡ ok n → (before : List Field) (f : Field) (after : List Field)
     → unfolded d ≡ before ++ (f ∷ after) → (f .mode ≡ 0) ⊎ (f .mode ≡ 1)
-modes-known d n e before f after k = go (f .mode) (good-at before f after (rw k at (fields-good d n e)) .mode-known)
+modes-known d n e before f after k = go (f .mode) (mode-known (good-at before f after (rw k at (fields-good d n e))))
   where
     go : (m : ℕ) → m ≤ 1 → (m ≡ 0) ⊎ (m ≡ 1)
     go zero h = inl refl
     go (suc m) h = inr (omega arith)
+
+-- an allowed size is what two bytes give
+two-bytes : (z : Sizes) (size : Size) → allows z size ≡ true → (a b : ℕ) × (size ≡ sizeOf z a b)
+two-bytes (upTo n) (bytes G) h = (G / 256, G % 256, ap bytes (omega arith))
+two-bytes (oneOf ns) (bytes G) h = (G / 256, G % 256, ap bytes (omega arith))
+two-bytes (digitsUpTo n) (digits p q) h = (p, q, refl)
+two-bytes (upTo n) (digits p q) h = absurd (true≢false (sym h))
+two-bytes (oneOf ns) (digits p q) h = absurd (true≢false (sym h))
+two-bytes (digitsUpTo n) (bytes G) h = absurd (true≢false (sym h))
+
+-- 01's table allows the mode and the size of each field of an accepted descriptor.
+pub field-allowed : (f : Field) → GoodField f → (a b : ℕ) × Allowed (f .code) 0 (f .mode) a b × (f .size ≡ sizeOf (ruleOf (f .type) .sizes) a b)
+field-allowed f g =
+    let (a, b, e) = two-bytes (ruleOf (f .type) .sizes) (f .size) (g .allowed) in
+    (a, b, rule-allows (f .code) 0 (f .mode) a b (f .type) (g .typed) (omega arith) (g .mode-allowed) (rw e at (g .allowed)), e)
 
 -- a value of fixed length has the field length; a null has none
 abbrev Filled : Layout → ℕ → Measured → Type 0

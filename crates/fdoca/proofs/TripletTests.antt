@@ -17,7 +17,7 @@ use Rattle.fdoca.specs.Check.{goodType, goodLengthSDA, goodSDA, goodLeng
 use Rattle.fdoca.specs.Reasons.{OneOf, here, there, LENGTH, byteOf, NotTorn, sda, rlo, isd, cpt, Is, Describes, extent, GoodParameters, Form, SDA, RLO, CPT, ISD, BadLength, BadParameter, own-id-0, parameters, extent-0, reserved, ISD-id, subset, version}
 use Rattle.fdoca.proofs.Tests.{and-left, and-right}
 use Rattle.fdoca.proofs.TripletBytes.{bytesOf, length-bytes, byte-bytes, byte-parameters, bias-bytes, mode-bytes, extents-from, extents-end, subset-bytes, version-bytes, version-left-off}
-use Rattle.fdoca.proofs.TypeRows.{elem-in, elem-out, good-parts, parts-good, rule-allows, table-allows, type-of-code}
+use Rattle.fdoca.proofs.TypeRows.{elem-in, elem-out, good-parts, parts-good, rule-holds, table-holds, type-of-code}
 
 -- A test tells whether P holds.
 pub record Tells (b : Bool) (P : Type 0) : Type 0 where
@@ -139,14 +139,14 @@ module _ (d : List ℕ) (j : ℕ) (w : NotTorn d j) where
               let g = good-parts (ruleOf T) (parametersOf (bytesOf d j)) h in
               record {
                 zeros = (sym (byte-parameters d j w SDA-long 0 (omega arith)) ∙ g .zeros .0, sym (byte-parameters d j w SDA-long 1 (omega arith)) ∙ g .zeros .1, sym (byte-parameters d j w SDA-long 4 (omega arith)) ∙ g .zeros .2);
-                allowed =
+                hold =
                     rw (← bias-bytes d j w SDA-long, ← mode-bytes d j w SDA-long, ← byte-parameters d j w SDA-long 6 (omega arith), ← byte-parameters d j w SDA-long 7 (omega arith))
-                    (rule-allows (byteOf d j 3) _ _ _ _ T (ap typeOf (sym code-is) ∙ e) (g .bias) (g .mode) (g .size-allowed));
+                    (rule-holds (byteOf d j 3) _ _ _ _ T (ap typeOf (sym code-is) ∙ e) (g .bias) (g .mode) (g .size-allowed));
               }
 
       good-type : GoodParameters d j → goodType (typeOf (codeOf (bytesOf d j))) (parametersOf (bytesOf d j)) ≡ true
       good-type g =
-          let b = table-allows (g .allowed) in
+          let b = table-holds (g .hold) in
           rw (code-is, type-of-code (b .typed))
           (parts-good (ruleOf (b .type)) (parametersOf (bytesOf d j)) (record {
             zeros = (byte-parameters d j w SDA-long 0 (omega arith) ∙ g .zeros .0, byte-parameters d j w SDA-long 1 (omega arith) ∙ g .zeros .1, byte-parameters d j w SDA-long 4 (omega arith) ∙ g .zeros .2);

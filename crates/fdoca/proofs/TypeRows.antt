@@ -1,20 +1,21 @@
 -- What the table of rules allows is what document 01's table of field types allows: type code, bias indicator, mode and size.
 -- Assumes nothing.
-use mathlib.Core.Path.{_≡_, refl, sym, _∙_}
+use mathlib.Core.Path.{_≡_, refl, sym, ap, _∙_}
 use Prim.Native.Nat.{ℕ, _+_, _-_, _≤_, _<_}
 use native.Mathlib.Omega.{arith}
+use native.Mathlib.Nat.{zero-add}
 use mathlib.Core.Bool.{Bool, true, false, _&&_, true≢false}
 use mathlib.Core.List.{List, [], _∷_}
-use mathlib.Core.Option.{some}
+use mathlib.Core.Option.{Option, none, some, Option·none-ne-some, Option·some-injective}
 use lib.Dec.{leb, ltb, eqb}
 use lib.ListN.{getD}
 use borrow.Author.Tests.{ltb-true, leb-true, le-leb, lt-leb, eqb-true, eq-eqb}
 use Rattle.fdoca.specs.Basics.{if_then_else_, elem, lookup}
-use Rattle.fdoca.specs.FieldType.{FieldType, fixedBytes, variableBytes, terminatedBytes, shortBytes, integer, reversedInteger, packedDecimal, hexFloat, reversedFloat, binaryFloat, types, nullable, plain, typeOf, sizeOf, Rule, allows, ruleOf}
+use Rattle.fdoca.specs.FieldType.{FieldType, fixedBytes, variableBytes, terminatedBytes, shortBytes, integer, reversedInteger, packedDecimal, hexFloat, reversedFloat, binaryFloat, types, nullable, typeOf, Size, bytes, digits, oneOf, sizeOf, Rule, allows, ruleOf, lengthThatHolds, sizeThatHolds}
 use Rattle.fdoca.specs.Triplet.{biasOf, modeOf, sizeIn}
 use Rattle.fdoca.specs.Check.{most, goodParameters}
 use Rattle.fdoca.specs.Reasons as R
-use Rattle.fdoca.specs.Reasons.{OneOf, here, there, F, Allowed, fixed, variable, null-terminated, short, whole-number, reversed-whole-number, packed, hexadecimal-float, reversed-float, float}
+use Rattle.fdoca.specs.Reasons.{OneOf, here, there, F, Allowed, fixed, variable, null-terminated, short, whole-number, reversed-whole-number, packed, Means, Hold, as-given, by-default}
 use Rattle.fdoca.proofs.Table.{looked-up}
 use Rattle.fdoca.proofs.Tests.{and-left, and-right}
 
@@ -70,6 +71,10 @@ code-of-type c T = go (leb 128 c) refl
     go true t h = let q = plain-code (c - 128) T h in as-nullable {c = c} (q .0) (q .1) (omega (arith, leb-true 128 c t))
     go false t h = let q = plain-code c T h in as-plain (q .0) (q .1)
 
+with-indicator : {T : FieldType} {c : ℕ} → c < 128 → Coded T c → Coded T (c + 128)
+with-indicator k (as-plain e l) = as-nullable e l refl
+with-indicator k (as-nullable e l q) = absurd (let z : ⊥ = omega arith in z)
+
 pub type-of-plain : (T : FieldType) → lookup (plainCode T) types ≡ some T
 type-of-plain fixedBytes = refl
 type-of-plain variableBytes = refl
@@ -94,7 +99,7 @@ pub record Good (r : Rule) (ps : List ℕ) : Type 0 where
   pub zeros : (getD ps 0 0 ≡ 0) × (getD ps 1 0 ≡ 0) × (getD ps 4 0 ≡ 0)
   pub bias : biasOf ps ≤ most (r .hasBias)
   pub mode : modeOf ps ≤ most (r .hasMode)
-  pub size-allowed : allows (r .sizes) (sizeIn (r .sizes) ps) ≡ true
+  pub size-allowed : allows (r .sizes) (sizeIn r ps) ≡ true
 
 module _ (r : Rule) (ps : List ℕ) where
   pub good-parts : goodParameters r ps ≡ true → Good r ps
@@ -105,7 +110,7 @@ module _ (r : Rule) (ps : List ℕ) where
       let b = leb (biasOf ps) (most (r .hasBias)) in
       let z₄ = eqb (getD ps 4 0) 0 in
       let m = leb (modeOf ps) (most (r .hasMode)) in
-      let l = allows (r .sizes) (sizeIn (r .sizes) ps) in
+      let l = allows (r .sizes) (sizeIn r ps) in
       let h₅ : (z₀ && z₁ && b && z₄ && m) ≡ true = and-left (z₀ && z₁ && b && z₄ && m) l h in
       let h₄ : (z₀ && z₁ && b && z₄) ≡ true = and-left (z₀ && z₁ && b && z₄) m h₅ in
       let h₃ : (z₀ && z₁ && b) ≡ true = and-left (z₀ && z₁ && b) z₄ h₄ in
@@ -164,9 +169,9 @@ module _ (bias mode a b : ℕ) where
   allowed integer h = bare (h .bias-is) (h .mode-is) (whole-number (elem-in (F a b) (2 ∷ 4 ∷ 8 ∷ []) (h .size-is)))
   allowed reversedInteger h = bare (h .bias-is) (h .mode-is) (reversed-whole-number (elem-in (F a b) (2 ∷ 4 ∷ 8 ∷ []) (h .size-is)))
   allowed packedDecimal h = bare (h .bias-is) (h .mode-is) (of-digits (h .size-is))
-  allowed hexFloat h = bare (h .bias-is) (h .mode-is) (hexadecimal-float (elem-in (F a b) (4 ∷ 8 ∷ 16 ∷ []) (h .size-is)))
-  allowed reversedFloat h = no-mode (h .mode-is) (reversed-float (elem-in (F a b) (4 ∷ 8 ∷ []) (h .size-is)) (h .bias-is))
-  allowed binaryFloat h = no-mode (h .mode-is) (float (elem-in (F a b) (4 ∷ 8 ∷ []) (h .size-is)) (h .bias-is))
+  allowed hexFloat h = bare (h .bias-is) (h .mode-is) (R.Allowed.hexadecimal-float (elem-in (F a b) (4 ∷ 8 ∷ 16 ∷ []) (h .size-is)))
+  allowed reversedFloat h = no-mode (h .mode-is) (R.Allowed.reversed-float (elem-in (F a b) (4 ∷ 8 ∷ []) (h .size-is)) (h .bias-is))
+  allowed binaryFloat h = no-mode (h .mode-is) (R.Allowed.float (elem-in (F a b) (4 ∷ 8 ∷ []) (h .size-is)) (h .bias-is))
 
 -- The rule of a code's type allows what the table does,
 pub rule-allows : (c bias mode a b : ℕ) (T : FieldType) → typeOf c ≡ some T → bias ≤ most (ruleOf T .hasBias) → mode ≤ most (ruleOf T .hasMode)
@@ -178,21 +183,28 @@ rule-allows c bias mode a b T e l m z = go (code-of-type c T e)
 
     go : Coded T c → Allowed c bias mode a b
     go (as-plain q k) = rw q h
-    go (as-nullable q k r) = rw (r, q) (R.nullable (rw q at k) h)
+    go (as-nullable q k r) = rw (r, q) (R.Allowed.nullable (rw q at k) h)
 
 -- and the table what the rule does.
-pub record ByTable (c bias mode a b : ℕ) : Type 0 where
+pub record ByTable (c bias mode : ℕ) (size : Rule → Size) : Type 0 where
   pub type : FieldType
   pub typed : Coded type c
   pub bias-is : bias ≤ most (ruleOf type .hasBias)
   pub mode-is : mode ≤ most (ruleOf type .hasMode)
-  pub size-is : allows (ruleOf type .sizes) (sizeOf (ruleOf type .sizes) a b) ≡ true
+  pub size-is : allows (ruleOf type .sizes) (size (ruleOf type)) ≡ true
+
+-- the size that two bytes give by a rule, and the one that holds
+abbrev given : (a b : ℕ) → Rule → Size
+given a b r = sizeOf (r .sizes) a b
+
+abbrev held : (a b : ℕ) → Rule → Size
+held a b r = sizeThatHolds r (given a b r)
 
 made : {c bias mode a b : ℕ} (T : FieldType) → c ≡ plainCode T → c < 128 → bias ≤ most (ruleOf T .hasBias) → mode ≤ most (ruleOf T .hasMode)
-    → allows (ruleOf T .sizes) (sizeOf (ruleOf T .sizes) a b) ≡ true → ByTable c bias mode a b
+    → allows (ruleOf T .sizes) (given a b (ruleOf T)) ≡ true → ByTable c bias mode (given a b)
 made T e k l m z = record { type = T; typed = as-plain e k; bias-is = l; mode-is = m; size-is = z }
 
-pub table-allows : {c bias mode a b : ℕ} → Allowed c bias mode a b → ByTable c bias mode a b
+pub table-allows : {c bias mode a b : ℕ} → Allowed c bias mode a b → ByTable c bias mode (given a b)
 unfolding ruleOf
 table-allows (fixed {a = a} {b = b} h) = made fixedBytes refl (omega arith) (omega arith) (omega arith) (le-leb (F a b) 32767 h)
 table-allows (variable {a = a} {b = b} h m) = made variableBytes refl (omega arith) (omega arith) m (le-leb (F a b) 32767 h)
@@ -203,13 +215,142 @@ table-allows (reversed-whole-number h) = made reversedInteger refl (omega arith)
 table-allows (packed {p = p} {q = q} l h k) =
     let z : (leb 1 p && leb p 18 && leb q p) ≡ true = rw (le-leb 1 p l, le-leb p 18 h, le-leb q p k) in
     made packedDecimal refl (omega arith) (omega arith) (omega arith) z
-table-allows (hexadecimal-float h) = made hexFloat refl (omega arith) (omega arith) (omega arith) (in-elem h)
-table-allows (reversed-float h l) = made reversedFloat refl (omega arith) l (omega arith) (in-elem h)
-table-allows (float h l) = made binaryFloat refl (omega arith) l (omega arith) (in-elem h)
-table-allows (R.nullable {code = c} k h) =
+table-allows (R.Allowed.hexadecimal-float h) = made hexFloat refl (omega arith) (omega arith) (omega arith) (in-elem h)
+table-allows (R.Allowed.reversed-float h l) = made reversedFloat refl (omega arith) l (omega arith) (in-elem h)
+table-allows (R.Allowed.float h l) = made binaryFloat refl (omega arith) l (omega arith) (in-elem h)
+table-allows (R.Allowed.nullable k h) =
     let t = table-allows h in
-    record { type = t .type; typed = go (t .typed); bias-is = t .bias-is; mode-is = t .mode-is; size-is = t .size-is }
+    record { type = t .type; typed = with-indicator k (t .typed); bias-is = t .bias-is; mode-is = t .mode-is; size-is = t .size-is }
+
+-- A type's default: none; or a float's, of which 01's table allows no field length but 4, 8, 16.
+abbrev floats : List ℕ
+floats = 4 ∷ 8 ∷ 16 ∷ []
+
+data Default (T : FieldType) : Option ℕ → Type 0 where
+  no-default : Default T none
+  of-float : {n : ℕ} (ns : List ℕ) → ruleOf T .sizes ≡ oneOf ns → ((G : ℕ) → OneOf G ns → OneOf G floats)
+      → ((G : ℕ) → (OneOf G floats → ⊥) → Means (plainCode T) G n) → Default T (some n)
+
+binary-length : (G : ℕ) → OneOf G (4 ∷ 8 ∷ []) → OneOf G floats
+binary-length G (here e) = here e
+binary-length G (there (here e)) = there (here e)
+
+default-of : (T : FieldType) → Default T (ruleOf T .default)
+unfolding ruleOf
+default-of fixedBytes = no-default
+default-of variableBytes = no-default
+default-of terminatedBytes = no-default
+default-of shortBytes = no-default
+default-of integer = no-default
+default-of reversedInteger = no-default
+default-of packedDecimal = no-default
+default-of hexFloat = of-float floats refl (λ G h. h) (λ G h. R.Means.hexadecimal-float h)
+default-of reversedFloat = of-float (4 ∷ 8 ∷ []) refl binary-length (λ G h. R.Means.reversed-float h)
+default-of binaryFloat = of-float (4 ∷ 8 ∷ []) refl binary-length (λ G h. R.Means.float h)
+
+-- the length that holds where there is a default
+module _ (n G : ℕ) where
+  length-holds : (OneOf G floats → lengthThatHolds (some n) G ≡ G) × ((OneOf G floats → ⊥) → lengthThatHolds (some n) G ≡ n)
+  length-holds = go (elem G floats) refl
+    where
+      go : (b : Bool) → elem G floats ≡ b → (OneOf G floats → (if b then G else n) ≡ G) × ((OneOf G floats → ⊥) → (if b then G else n) ≡ n)
+      go true e = (λ h. refl, λ h. absurd (h (elem-in G floats e)))
+      go false e = (λ h. absurd (elem-out G floats e h), λ h. refl)
+
+-- without one, every size holds
+no-other : (r : Rule) (z : Size) → r .default ≡ none → sizeThatHolds r z ≡ z
+no-other r (bytes G) e = rw e
+no-other r (digits p q) e = refl
+
+-- what Q-2 says of a code is its type's default
+record ByMeans (c G n : ℕ) : Type 0 where
+  type : FieldType
+  typed : Coded type c
+  default-is : ruleOf type .default ≡ some n
+  other : OneOf G floats → ⊥
+
+by-means : {c G n : ℕ} → Means c G n → ByMeans c G n
+unfolding ruleOf
+by-means (R.Means.hexadecimal-float h) = record { type = hexFloat; typed = as-plain refl (omega arith); default-is = refl; other = h }
+by-means (R.Means.reversed-float h) = record { type = reversedFloat; typed = as-plain refl (omega arith); default-is = refl; other = h }
+by-means (R.Means.float h) = record { type = binaryFloat; typed = as-plain refl (omega arith); default-is = refl; other = h }
+by-means (R.Means.nullable k m) =
+    let q = by-means m in
+    record { type = q .type; typed = with-indicator k (q .typed); default-is = q .default-is; other = q .other }
+
+module _ (T : FieldType) (a b : ℕ) where
+  -- A size that 01's table allows holds as it is given,
+  pub size-kept : allows (ruleOf T .sizes) (given a b (ruleOf T)) ≡ true → held a b (ruleOf T) ≡ given a b (ruleOf T)
+  size-kept h = go (ruleOf T .default) refl (default-of T)
+    where
+      go : (o : Option ℕ) → ruleOf T .default ≡ o → Default T o → held a b (ruleOf T) ≡ given a b (ruleOf T)
+      go none e no-default = no-other (ruleOf T) (given a b (ruleOf T)) e
+      go (some n) e (of-float ns es sub means) =
+          let k : elem (F a b) ns ≡ true = rw es at h in
+          rw (es, e) (ap bytes (length-holds n (F a b) .0 (sub (F a b) (elem-in (F a b) ns k))))
+
+  -- the default that Q-2 puts in for it otherwise,
+  pub size-default : (c n : ℕ) → Coded T c → Means c (F a b) n → (held a b (ruleOf T) ≡ bytes n) × (given 0 n (ruleOf T) ≡ bytes n)
+  size-default c n k m = go (ruleOf T .default) refl (default-of T)
+    where
+      q : ByMeans c (F a b) n
+      q = by-means m
+
+      same : q .type ≡ T
+      same = Option·some-injective (q .type) T (sym (type-of-code (q .typed)) ∙ type-of-code k)
+
+      is : ruleOf T .default ≡ some n
+      is = sym (ap (λ U. ruleOf U .default) same) ∙ q .default-is
+
+      go : (o : Option ℕ) → ruleOf T .default ≡ o → Default T o → (held a b (ruleOf T) ≡ bytes n) × (given 0 n (ruleOf T) ≡ bytes n)
+      go none e no-default = absurd (Option·none-ne-some n (sym e ∙ is))
+      go (some o) e (of-float ns es sub means) = (rw (es, is) (ap bytes (length-holds n (F a b) .1 (q .other))), rw (es, zero-add n))
+
+-- and nothing else: the parameters that hold by a rule are those that hold by the table,
+pub rule-holds : (c bias mode a b : ℕ) (T : FieldType) → typeOf c ≡ some T → bias ≤ most (ruleOf T .hasBias) → mode ≤ most (ruleOf T .hasMode)
+    → allows (ruleOf T .sizes) (held a b (ruleOf T)) ≡ true → Hold c bias mode a b
+rule-holds c bias mode a b T typed l m h = go (ruleOf T .default) refl (default-of T)
   where
-    go : {T : FieldType} → Coded T c → Coded T (c + 0x80)
-    go (as-plain e l) = as-nullable e l refl
-    go (as-nullable e l q) = absurd (let z : ⊥ = omega arith in z)
+    means-of : {G n : ℕ} → Coded T c → Means (plainCode T) G n → Means c G n
+    means-of (as-plain q k) x = rw q x
+    means-of (as-nullable q k r) x = rw (r, q) (R.Means.nullable (rw q at k) x)
+
+    float : (n : ℕ) (ns : List ℕ) → ruleOf T .sizes ≡ oneOf ns → ((G : ℕ) → (OneOf G floats → ⊥) → Means (plainCode T) G n) → (x : Bool)
+        → elem (F a b) floats ≡ x → elem (if x then F a b else n) ns ≡ true → Hold c bias mode a b
+    float n ns es means true e k = as-given (rule-allows c bias mode a b T typed l m (rw es k))
+    float n ns es means false e k =
+        by-default (means-of (code-of-type c T typed) (means (F a b) (elem-out (F a b) floats e))) (rule-allows c bias mode 0 n T typed l m (rw (es, zero-add n) k))
+
+    go : (o : Option ℕ) → ruleOf T .default ≡ o → Default T o → Hold c bias mode a b
+    go none e no-default = as-given (rule-allows c bias mode a b T typed l m (rw (no-other (ruleOf T) (given a b (ruleOf T)) e) at h))
+    go (some n) e (of-float ns es sub means) = float n ns es means (elem (F a b) floats) refl (rw (es, e) at h)
+
+-- and the other way round.
+pub table-holds : {c bias mode a b : ℕ} → Hold c bias mode a b → ByTable c bias mode (held a b)
+table-holds (as-given {a = a} {b = b} h) =
+    let t = table-allows h in
+    record { type = t .type; typed = t .typed; bias-is = t .bias-is; mode-is = t .mode-is; size-is = rw (size-kept (t .type) a b (t .size-is)) (t .size-is) }
+table-holds (by-default {code = c} {a = a} {b = b} {n = n} m h) =
+    let t = table-allows h in
+    let (x, y) = size-default (t .type) a b c n (t .typed) m in
+    record { type = t .type; typed = t .typed; bias-is = t .bias-is; mode-is = t .mode-is; size-is = rw x (rw y at (t .size-is)) }
+
+pub size-given : (c : ℕ) (T : FieldType) → typeOf c ≡ some T → (a b bias mode : ℕ) → Allowed c bias mode a b → held a b (ruleOf T) ≡ given a b (ruleOf T)
+size-given c T typed a b bias mode h =
+    let t = table-allows h in
+    let same : t .type ≡ T = Option·some-injective (t .type) T (sym (type-of-code (t .typed)) ∙ typed) in
+    size-kept T a b (rw same at (t .size-is))
+
+pub size-else : (c : ℕ) (T : FieldType) → typeOf c ≡ some T → (ps : List ℕ) → ((bias mode : ℕ) → Allowed c bias mode (getD ps 6 0) (getD ps 7 0) → ⊥)
+    → ((n : ℕ) → Means c (F (getD ps 6 0) (getD ps 7 0)) n → ⊥) → goodParameters (ruleOf T) ps ≡ false
+size-else c T typed ps no-given none-put-in = go (goodParameters (ruleOf T) ps) refl
+  where
+    none-holds : Hold c (biasOf ps) (modeOf ps) (getD ps 6 0) (getD ps 7 0) → ⊥
+    none-holds (as-given h) = no-given _ _ h
+    none-holds (by-default m h) = none-put-in _ m
+
+    go : (b : Bool) → goodParameters (ruleOf T) ps ≡ b → b ≡ false
+    go false e = refl
+    go true e =
+        let g = good-parts (ruleOf T) ps e in
+        absurd (none-holds (rule-holds c (biasOf ps) (modeOf ps) (getD ps 6 0) (getD ps 7 0) T typed (g .bias) (g .mode) (g .size-allowed)))

@@ -1,8 +1,8 @@
--- The field types (document 01, "Field types"; document 02, Q-1; 000, section 4.3.3) and the rule of each.
+-- The field types (document 01, "Field types"; document 02, Q-1 and Q-2; 000, section 4.3.3) and the rule of each.
 use Prim.Native.Nat.{ℕ, _+_, _-_, _*_, _/_}
 use mathlib.Core.Bool.{Bool, true, false, _&&_}
 use mathlib.Core.List.{List, [], _∷_}
-use mathlib.Core.Option.{Option}
+use mathlib.Core.Option.{Option, none, some}
 use lib.Dec.{leb}
 use Rattle.fdoca.specs.Basics.{if_then_else_, elem, lookup}
 
@@ -80,24 +80,36 @@ allows (upTo n) (digits p fraction) = false
 allows (oneOf ns) (digits p fraction) = false
 allows (digitsUpTo n) (bytes F) = false
 
--- A row of the table of rules.
+-- A row of the table of rules: the layout of a value, the sizes that are allowed, the default field length of a float (Q-2), and whether there
+-- are a mode and a bias indicator.
 pub record Rule : Type 0 where
   pub layout : Layout
   pub sizes : Sizes
+  pub default : Option ℕ
   pub hasMode : Bool
   pub hasBias : Bool
 
-abbrev pub rule : Layout → Sizes → Bool → Bool → Rule
-rule l n m b = record { layout = l; sizes = n; hasMode = m; hasBias = b }
+abbrev pub rule : Layout → Sizes → Option ℕ → Bool → Bool → Rule
+rule l n d m b = record { layout = l; sizes = n; default = d; hasMode = m; hasBias = b }
 
 unfoldable pub ruleOf : FieldType → Rule
-ruleOf fixedBytes = rule fixed (upTo 32767) false false
-ruleOf variableBytes = rule (counted signedTwo) (upTo 32767) true false
-ruleOf terminatedBytes = rule terminated (upTo 32767) true false
-ruleOf shortBytes = rule (counted unsignedOne) (upTo 255) true false
-ruleOf integer = rule fixed (oneOf (2 ∷ 4 ∷ 8 ∷ [])) false false
-ruleOf reversedInteger = rule fixed (oneOf (2 ∷ 4 ∷ 8 ∷ [])) false false
-ruleOf packedDecimal = rule fixed (digitsUpTo 18) false false
-ruleOf hexFloat = rule fixed (oneOf (4 ∷ 8 ∷ 16 ∷ [])) false false
-ruleOf reversedFloat = rule fixed (oneOf (4 ∷ 8 ∷ [])) false true
-ruleOf binaryFloat = rule fixed (oneOf (4 ∷ 8 ∷ [])) false true
+ruleOf fixedBytes = rule fixed (upTo 32767) none false false
+ruleOf variableBytes = rule (counted signedTwo) (upTo 32767) none true false
+ruleOf terminatedBytes = rule terminated (upTo 32767) none true false
+ruleOf shortBytes = rule (counted unsignedOne) (upTo 255) none true false
+ruleOf integer = rule fixed (oneOf (2 ∷ 4 ∷ 8 ∷ [])) none false false
+ruleOf reversedInteger = rule fixed (oneOf (2 ∷ 4 ∷ 8 ∷ [])) none false false
+ruleOf packedDecimal = rule fixed (digitsUpTo 18) none false false
+ruleOf hexFloat = rule fixed (oneOf (4 ∷ 8 ∷ 16 ∷ [])) (some 8) false false
+ruleOf reversedFloat = rule fixed (oneOf (4 ∷ 8 ∷ [])) (some 4) false true
+ruleOf binaryFloat = rule fixed (oneOf (4 ∷ 8 ∷ [])) (some 4) false true
+
+-- The field length that holds where an SDA gives F (Q-2): for a type with a default, an F other than 4, 8, 16 means the default.
+abbrev pub lengthThatHolds : (default : Option ℕ) → (F : ℕ) → ℕ
+lengthThatHolds none F = F
+lengthThatHolds (some n) F = if elem F (4 ∷ 8 ∷ 16 ∷ []) then F else n
+
+-- The size that holds, by the rule of a type.
+abbrev pub sizeThatHolds : Rule → Size → Size
+sizeThatHolds r (bytes F) = bytes (lengthThatHolds (r .default) F)
+sizeThatHolds r (digits p fraction) = digits p fraction

@@ -142,10 +142,22 @@ pub data Allowed : (code bias mode a b : ℕ) → Type 0 where
   float : {bias a b : ℕ} → OneOf (F a b) (4 ∷ 8 ∷ []) → bias ≤ 1 → Allowed 0x48 bias 0 a b
   nullable : {code bias mode a b : ℕ} → code < 0x80 → Allowed code bias mode a b → Allowed (code + 0x80) bias mode a b
 
+-- Q-2: an F of the type means the default n. For X'40' an F other than 4, 8, 16 means 8; for X'47' and X'48' it means 4.
+pub data Means : (code F n : ℕ) → Type 0 where
+  hexadecimal-float : {F : ℕ} → (OneOf F (4 ∷ 8 ∷ 16 ∷ []) → ⊥) → Means 0x40 F 8
+  reversed-float : {F : ℕ} → (OneOf F (4 ∷ 8 ∷ 16 ∷ []) → ⊥) → Means 0x47 F 4
+  float : {F : ℕ} → (OneOf F (4 ∷ 8 ∷ 16 ∷ []) → ⊥) → Means 0x48 F 4
+  nullable : {code F n : ℕ} → code < 0x80 → Means code F n → Means (code + 0x80) F n
+
+-- The parameters hold as they are given, or with the default in place of F.
+pub data Hold : (code bias mode a b : ℕ) → Type 0 where
+  as-given : {code bias mode a b : ℕ} → Allowed code bias mode a b → Hold code bias mode a b
+  by-default : {code bias mode a b n : ℕ} → Means code (F a b) n → Allowed code bias mode 0 n → Hold code bias mode a b
+
 -- An SDA's type and parameters: field type in byte 3, then eight bytes, of which 2 and 3 are the bias indicator, 5 the mode, 6 and 7 the size.
 pub record GoodParameters (d : List ℕ) (j : ℕ) : Type 0 where
   pub zeros : (byteOf d j 4 ≡ 0) × (byteOf d j 5 ≡ 0) × (byteOf d j 8 ≡ 0)
-  pub allowed : Allowed (byteOf d j 3) (twoBytes d (place d j + 6)) (byteOf d j 9) (byteOf d j 10) (byteOf d j 11)
+  pub hold : Hold (byteOf d j 3) (twoBytes d (place d j + 6)) (byteOf d j 9) (byteOf d j 10) (byteOf d j 11)
 
 -- THE ROWS that speak of triplet j.
 

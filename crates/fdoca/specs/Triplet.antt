@@ -6,7 +6,7 @@ use mathlib.Core.Option.{Option}
 use lib.Dec.{ltb}
 use lib.ListN.{length, take, drop, getD}
 use Rattle.fdoca.specs.Basics.{if_then_else_, big, lookup}
-use Rattle.fdoca.specs.FieldType.{Size, Sizes, sizeOf}
+use Rattle.fdoca.specs.FieldType.{Size, sizeOf, Rule, sizeThatHolds}
 
 -- A triplet's place in the descriptor and its LENGTH bytes; or the place of a torn one, with LENGTH below 2 or past the end.
 pub data Triplet : Type 0 where
@@ -61,8 +61,9 @@ biasOf ps = big (take 2 (drop 2 ps))
 abbrev pub modeOf : List ℕ → ℕ
 modeOf ps = getD ps 5 0
 
-abbrev pub sizeIn : Sizes → List ℕ → Size
-sizeIn allowed ps = sizeOf allowed (getD ps 6 0) (getD ps 7 0)
+-- The size that holds for the parameters of a type with the rule r.
+abbrev pub sizeIn : Rule → List ℕ → Size
+sizeIn r ps = sizeThatHolds r (sizeOf (r .sizes) (getD ps 6 0) (getD ps 7 0))
 
 -- A group of an RLO or CPT: id referred to, elements taken, repetition factor.
 pub record Group : Type 0 where

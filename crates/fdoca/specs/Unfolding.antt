@@ -54,7 +54,7 @@ addFields ds l (g ∷ gs) = addFields ds (l ++ groupFields ds g) gs
 
 abbrev pub fieldOf : FieldType → List ℕ → Field
 fieldOf T t =
-    record { id = idOf t; code = codeOf t; type = T; mode = modeOf (parametersOf t); size = sizeIn (ruleOf T .sizes) (parametersOf t) }
+    record { id = idOf t; code = codeOf t; type = T; mode = modeOf (parametersOf t); size = sizeIn (ruleOf T) (parametersOf t) }
 
 unfoldable pub unfoldSDA : Option FieldType → Layouts → List ℕ → Layouts
 unfoldSDA none st t = st  -- *
