@@ -1,6 +1,6 @@
 -- The steps over an SDA, an RLO and a CPT, from what judging them gave.
 -- Assumes nothing.
-use mathlib.Core.Path.{_≡_, refl, sym, _∙_}
+use mathlib.Core.Path.{_≡_, sym, _∙_}
 use mathlib.Core.Logic.{_≢_}
 use Prim.Native.Nat.{ℕ, _≤_, _<_}
 use native.Mathlib.Omega.{arith}
@@ -9,9 +9,9 @@ use mathlib.Core.List.{List}
 use lib.ListN.{length, getD}
 use borrow.Author.Tests.{eq-eqb, ne-eqb}
 use Rattle.fdoca.specs.Basics.{product, Result, refuse, ok}
-use Rattle.fdoca.specs.Triplet.{codeOf, extentsOf}
+use Rattle.fdoca.specs.Triplet.{codeOf, parametersOf, extentsOf}
 use Rattle.fdoca.specs.Check.{goodLengthSDA, goodSDA}
-use Rattle.field_types.specs.Parameters.{layoutNumber}
+use Rattle.field_types.specs.Parameters.{shapeOf}
 use Rattle.sdas.specs.declared.Judged.{Judged}
 use Rattle.sdas.specs.Tables.{outcome}
 use Rattle.sdas.specs.Judged.{JudgedSDA}
@@ -55,8 +55,11 @@ module _ (t s : List ℕ) (j : Judged) (y : JudgedSDA t s j) where
     pub judged-count : j .count ≡ product (extentsOf t)
     judged-count = y .count h
 
-    pub judged-layout : j .layout ≡ layoutNumber (codeOf t)
-    judged-layout = y .layout h
+    pub judged-shape : j .shape ≡ shapeOf (codeOf t) (parametersOf t)
+    judged-shape = y .shape h
+
+    pub judged-size : j .shape .size < 65536
+    judged-size = y .size-small
 
     judged-small : j .count ≤ 4096
     judged-small = y .small

@@ -55,6 +55,13 @@ layout-back (counted signedTwo) = refl
 layout-back (counted unsignedOne) = refl
 layout-back terminated = refl
 
+pub prefix-below-4 : (l : Layout) → prefixOf l < 4
+unfolding prefixOf
+prefix-below-4 fixed = omega arith
+prefix-below-4 (counted signedTwo) = omega arith
+prefix-below-4 (counted unsignedOne) = omega arith
+prefix-below-4 terminated = omega arith
+
 -- a row that is k has the rule of row k
 pub in-row : (r : Rule) (row k : ℕ) → row ≡ k → r ≡ ruleAt k → r ≡ ruleAt row
 in-row r row k e h = h ∙ sym (ap ruleAt e)

@@ -1,20 +1,23 @@
--- The test of an SDA's eight type parameter bytes (document 01, "Field types"), its parts, and the layout's number of an SDA that is good.
-use Prim.Native.Nat.{ℕ, _+_, _*_}
+-- The test of an SDA's eight type parameter bytes (document 01, "Field types"), its parts, and the shape of an SDA that is good.
+use Prim.Native.Nat.{ℕ, _+_, _*_, _/_, _%_, _<_}
+use mathlib.Core.Path.{_≡_}
 use mathlib.Core.Bool.{Bool, true, false, _&&_}
 use mathlib.Core.List.{List}
 use lib.Dec.{leb, ltb, eqb}
 use lib.ListN.{length, getD}
 use Rattle.fdoca.specs.Basics.{if_then_else_}
-use Rattle.fdoca.specs.FieldType.{typeOf}
+use Rattle.fdoca.specs.FieldType.{typeOf, Size, bytes, digits}
+use Rattle.fdoca.specs.Triplet.{sizeIn}
 use Rattle.fdoca.specs.Check.{goodType}
 use Rattle.field_types.specs.declared.Rule.{Rule}
+use Rattle.field_types.specs.declared.Shape.{Shape}
 use Rattle.field_types.specs.Rows.{formOf, ruleFor}
 
 -- The bytes that no type has a parameter in.
 unfoldable pub unusedZero : List ℕ → Bool
 unusedZero ps = eqb (getD ps 0 0) 0 && (eqb (getD ps 1 0) 0 && eqb (getD ps 4 0) 0)
 
--- A table's rule allows a field length, digits with fraction digits, a size by its two bytes, and all parameters.
+-- A table's rule allows a field length, digits with fraction digits, a size by its two bytes as one number, and all parameters.
 unfoldable pub lengthAllowed : Rule → (F : ℕ) → Bool
 lengthAllowed r F =
     if ltb F (r .top) then true
@@ -29,14 +32,23 @@ digitsAllowed most p fraction =
     else if ltb most p then false
     else leb fraction p
 
-unfoldable pub sizeAllowed : Rule → (a b : ℕ) → Bool
-sizeAllowed r a b = if eqb (r .digits) 0 then lengthAllowed r (a * 256 + b) else digitsAllowed (r .digits) a b
+unfoldable pub sizeAllowed : Rule → (size : ℕ) → Bool
+sizeAllowed r size = if eqb (r .digits) 0 then lengthAllowed r size else digitsAllowed (r .digits) (size / 256) (size % 256)
 
-unfoldable pub ruleAllows : Rule → (bias mode a b : ℕ) → Bool
-ruleAllows r bias mode a b =
+unfoldable pub ruleAllows : Rule → (bias mode size : ℕ) → Bool
+ruleAllows r bias mode size =
     if ltb (r .biases) bias then false
     else if ltb (r .modes) mode then false
-    else sizeAllowed r a b
+    else sizeAllowed r size
+
+-- The size that holds by a table's rule.
+unfoldable pub sizeHeld : Rule → (size : ℕ) → ℕ
+sizeHeld r size =
+    if eqb (r .default) 0 then size
+    else if eqb size 4 then size
+    else if eqb size 8 then size
+    else if eqb size 16 then size
+    else r .default
 
 -- The parameters are eight bytes, and good for the type that the code stands for.
 unfoldable pub goodEight : (code : ℕ) → List ℕ → Bool
@@ -46,6 +58,22 @@ goodEight code ps = eqb (length ps) 8 && goodType (typeOf code) ps
 unfoldable pub layoutNumber : (code : ℕ) → ℕ
 layoutNumber code = formOf (ruleFor (typeOf code) .sizes) (ruleFor (typeOf code) .layout)
 
--- The layout's number where all is good, else a number that no layout has.
-unfoldable pub layoutIf : Bool → (code : ℕ) → ℕ
-layoutIf good code = if good then layoutNumber code else 255
+-- A size as one number: F, or the digits and the fraction digits in a byte each.
+abbrev pub sizeNumber : Size → ℕ
+sizeNumber (bytes F) = F
+sizeNumber (digits p fraction) = p * 256 + fraction
+
+-- The shape by the rule of a code, with the size that holds; and one with a number that no layout has.
+unfoldable pub shapeOf : (code : ℕ) → List ℕ → Shape
+shapeOf code ps = record { layout = layoutNumber code; size = sizeNumber (sizeIn (ruleFor (typeOf code)) ps) }
+
+abbrev pub noShape : Shape
+noShape = record { layout = 255; size = 0 }
+
+-- The shape of an SDA, by whether it is good.
+abbrev pub shapeIf : Bool → (code : ℕ) → List ℕ → Shape
+shapeIf good code ps = if good then shapeOf code ps else noShape
+
+pub record Shaped (good : Bool) (code : ℕ) (ps : List ℕ) (x : Shape) : Type 0 where
+  pub same : x ≡ shapeIf good code ps
+  pub small : x .size < 65536

@@ -69,6 +69,11 @@ mostDigits (upTo n) = 0
 mostDigits (oneOf ns) = 0
 mostDigits (digitsUpTo n) = n
 
+-- The default, 0 where there is none.
+unfoldable pub defaultNumber : Option ℕ → ℕ
+defaultNumber none = 0
+defaultNumber (some n) = n
+
 -- The size at k, or a number that no field length is, since two bytes do not hold it.
 abbrev pub noSize : ℕ
 noSize = 65536
@@ -91,6 +96,7 @@ inNumbers r =
       size2 = sizeAt (r .sizes) 1;
       size3 = sizeAt (r .sizes) 2;
       digits = mostDigits (r .sizes);
+      default = defaultNumber (r .default);
       modes = most (r .hasMode);
       biases = most (r .hasBias);
       prefix = formOf (r .sizes) (r .layout);
@@ -98,7 +104,7 @@ inNumbers r =
 
 -- The rule by which a code is judged: where there is no type, no size is allowed.
 unfoldable pub ruleFor : Option FieldType → definition.Rule
-ruleFor none = rule fixed (oneOf []) false false
+ruleFor none = rule fixed (oneOf []) none false false
 ruleFor (some T) = ruleOf T
 
 -- That rule in the table.

@@ -1,10 +1,10 @@
-// Field types (document 01, "Field types"; document 02, Q-1): the row of a type code, the rule of each row, and the test of an SDA's type parameters.
+// Field types (document 01, "Field types"; document 02, Q-1 and Q-2): the row of a type code, the rule of each row, the size that holds for an SDA's type parameters, and their test.
 ghost use mathlib.Core.Path.{_≡_};
 ghost use Prim.Native.Nat.{_<_};
 ghost use lib.ListN.{length};
 ghost use Rattle.fdoca.specs.FieldType.{typeOf};
 ghost use Rattle.field_types.specs.Rows.{rowOf, RowTable, ruleAt};
-ghost use Rattle.field_types.specs.Parameters.{unusedZero, lengthAllowed, digitsAllowed, sizeAllowed, ruleAllows, goodEight, layoutIf};
+ghost use Rattle.field_types.specs.Parameters.{unusedZero, sizeHeld, lengthAllowed, digitsAllowed, sizeAllowed, ruleAllows, goodEight, noShape, Shaped};
 use numbers::pair;
 use numbers::wide;
 
@@ -17,6 +17,13 @@ pub const DIGITS: u8 = 4;
 // A number that no layout has.
 pub const NO_LAYOUT: u8 = 255;
 
+// What an SDA's type and parameters say of its items: the layout's number, DIGITS of a packed decimal; and the two bytes of the size that
+// holds, as one number.
+pub struct Shape {
+    pub layout: u8,
+    pub size: usize,
+}
+
 // What a field type allows as its type parameters, and how long its values are.
 struct Rule {
     // The field length is below `top`, or is one of three sizes; or there are so many digits at the most, 0 where the size is no digits.
@@ -25,6 +32,8 @@ struct Rule {
     size2: usize,
     size3: usize,
     digits: usize,
+    // What a field length other than 4, 8, 16 means; 0 where the type has no default.
+    default: usize,
     // The largest mode, and the largest bias indicator.
     modes: u8,
     biases: usize,
@@ -301,6 +310,7 @@ const RULES: [Rule; 11] = [
         size2: NO_SIZE,
         size3: NO_SIZE,
         digits: 0,
+        default: 0,
         modes: 0,
         biases: 0,
         prefix: 0,
@@ -312,6 +322,7 @@ const RULES: [Rule; 11] = [
         size2: NO_SIZE,
         size3: NO_SIZE,
         digits: 0,
+        default: 0,
         modes: 0,
         biases: 0,
         prefix: 0,
@@ -323,6 +334,7 @@ const RULES: [Rule; 11] = [
         size2: NO_SIZE,
         size3: NO_SIZE,
         digits: 0,
+        default: 0,
         modes: 1,
         biases: 0,
         prefix: 2,
@@ -334,6 +346,7 @@ const RULES: [Rule; 11] = [
         size2: NO_SIZE,
         size3: NO_SIZE,
         digits: 0,
+        default: 0,
         modes: 1,
         biases: 0,
         prefix: 3,
@@ -345,6 +358,7 @@ const RULES: [Rule; 11] = [
         size2: NO_SIZE,
         size3: NO_SIZE,
         digits: 0,
+        default: 0,
         modes: 1,
         biases: 0,
         prefix: 1,
@@ -356,6 +370,7 @@ const RULES: [Rule; 11] = [
         size2: 4,
         size3: 8,
         digits: 0,
+        default: 0,
         modes: 0,
         biases: 0,
         prefix: 0,
@@ -367,6 +382,7 @@ const RULES: [Rule; 11] = [
         size2: 4,
         size3: 8,
         digits: 0,
+        default: 0,
         modes: 0,
         biases: 0,
         prefix: 0,
@@ -378,6 +394,7 @@ const RULES: [Rule; 11] = [
         size2: NO_SIZE,
         size3: NO_SIZE,
         digits: 18,
+        default: 0,
         modes: 0,
         biases: 0,
         prefix: DIGITS,
@@ -389,6 +406,7 @@ const RULES: [Rule; 11] = [
         size2: 8,
         size3: 16,
         digits: 0,
+        default: 8,
         modes: 0,
         biases: 0,
         prefix: 0,
@@ -400,6 +418,7 @@ const RULES: [Rule; 11] = [
         size2: 8,
         size3: NO_SIZE,
         digits: 0,
+        default: 4,
         modes: 0,
         biases: 1,
         prefix: 0,
@@ -411,6 +430,7 @@ const RULES: [Rule; 11] = [
         size2: 8,
         size3: NO_SIZE,
         digits: 0,
+        default: 4,
         modes: 0,
         biases: 1,
         prefix: 0,
@@ -499,21 +519,38 @@ fn digits_allowed(most: usize, p: usize, fraction: usize) -> bool
     fraction <= p
 }
 
-// Whether a rule allows a size, by the two bytes that say it.
-fn size_allowed(rule: Rule, a: usize, b: usize) -> bool
-    requires { ⌜ (a < 256) × (b < 256) ⌝ }
-    ensures { λ r. ⌜ r ≡ sizeAllowed rule a b ⌝ }
+// The size that holds, by its two bytes as one number: a type's default, where it has one, in place of a field length other than 4, 8, 16.
+fn size_held(rule: Rule, size: usize) -> usize
+    ensures { λ r. ⌜ r ≡ sizeHeld rule size ⌝ }
+{
+    if rule.default == 0 {
+        return size;
+    }
+    if size == 4 {
+        return size;
+    }
+    if size == 8 {
+        return size;
+    }
+    if size == 16 {
+        return size;
+    }
+    rule.default
+}
+
+// Whether a rule allows a size, by its two bytes as one number.
+fn size_allowed(rule: Rule, size: usize) -> bool
+    ensures { λ r. ⌜ r ≡ sizeAllowed rule size ⌝ }
 {
     if rule.digits == 0 {
-        return length_allowed(rule, a * 256 + b);
+        return length_allowed(rule, size);
     }
-    digits_allowed(rule.digits, a, b)
+    digits_allowed(rule.digits, size / 256, size % 256)
 }
 
 // Whether a rule allows a bias indicator, a mode and a size.
-fn rule_allows(rule: Rule, bias: usize, mode: u8, a: usize, b: usize) -> bool
-    requires { ⌜ (a < 256) × (b < 256) ⌝ }
-    ensures { λ r. ⌜ r ≡ ruleAllows rule bias mode a b ⌝ }
+fn rule_allows(rule: Rule, bias: usize, mode: u8, size: usize) -> bool
+    ensures { λ r. ⌜ r ≡ ruleAllows rule bias mode size ⌝ }
 {
     if rule.biases < bias {
         return false;
@@ -521,23 +558,38 @@ fn rule_allows(rule: Rule, bias: usize, mode: u8, a: usize, b: usize) -> bool
     if rule.modes < mode {
         return false;
     }
-    size_allowed(rule, a, b)
+    size_allowed(rule, size)
 }
 
-// The layout's number of an SDA whose type parameters are eight bytes that its field type allows, DIGITS of a packed decimal, else NO_LAYOUT.
-pub fn layout_of(rows: &[u8; 256], code: u8, ps: &[u8]) -> u8
+// The shape of an SDA that is not good.
+pub fn no_shape() -> Shape
+    ensures { λ r. ⌜ r ≡ noShape ⌝ }
+{
+    Shape {
+        layout: NO_LAYOUT,
+        size: 0,
+    }
+}
+
+// The shape of an SDA whose type parameters are eight bytes that its field type allows, with the size that holds; else `no_shape`.
+pub fn shape_of(rows: &[u8; 256], code: u8, ps: &[u8]) -> Shape
     requires { ⌜ RowTable (now rows) ⌝ }
-    ensures { λ r. ⌜ r ≡ layoutIf (goodEight code (now (ps .entry))) code ⌝ }
+    ensures { λ r. ⌜ Shaped (goodEight code (now (ps .entry))) code (now (ps .entry)) r ⌝ }
 {
     if ps.len() != 8 {
-        return NO_LAYOUT;
+        return no_shape();
     }
     if !unused_zero(ps) {
-        return NO_LAYOUT;
+        return no_shape();
     }
     let rule = rule_at(rows[code as usize]);
-    if rule_allows(rule, pair(ps[2], ps[3]), ps[5], wide(ps[6]), wide(ps[7])) {
-        return rule.prefix;
+    let given = wide(ps[6]) * 256 + wide(ps[7]);
+    let size = size_held(rule, given);
+    if rule_allows(rule, pair(ps[2], ps[3]), ps[5], size) {
+        return Shape {
+            layout: rule.prefix,
+            size: size,
+        };
     }
-    NO_LAYOUT
+    no_shape()
 }

@@ -1,27 +1,30 @@
 -- What is kept of an SDA: its plan entry, and its size.
 -- Assumes nothing.
 use mathlib.Core.Path.{_≡_, refl, sym, ap, _∙_}
-use Prim.Native.Nat.{ℕ, zero, suc, _+_, _*_, _%_, _≤_, _<_}
+use Prim.Native.Nat.{ℕ, zero, suc, _+_, _*_, _/_, _%_, _≤_, _<_}
 use native.Mathlib.Omega.{arith}
 use native.Mathlib.Nat.{mul-one, zero-mul, mul-le-mul-right}
-use mathlib.Core.Bool.{Bool, true, false, not, _&&_}
+use mathlib.Core.Bool.{Bool, true, false, not, _&&_, true≢false}
 use mathlib.Core.List.{List, [], _∷_}
 use mathlib.Core.Option.{Option, none, some}
-use lib.Dec.{leb, eqb, lit<}
+use lib.Dec.{leb, eqb, lit≤, lit<}
 use lib.ListN.{length, getD, set, drop}
 use lib.Seq.{getD-take, getD-drop}
-use borrow.Author.Tests.{ltb-true, leb-true, eqb-false}
+use borrow.Author.Tests.{ltb-true, leb-true, eqb-false, ne-eqb}
 use mir.Syntax.{w32, w64}
 use mir.Val.{Fits}
 use Rattle.fdoca.specs.Basics.{elem, product}
-use Rattle.fdoca.specs.FieldType.{FieldType, fixedBytes, variableBytes, terminatedBytes, shortBytes, integer, reversedInteger, packedDecimal, hexFloat, reversedFloat, binaryFloat, typeOf, inBytes, sizeOf, allows, ruleOf}
-use Rattle.fdoca.specs.Triplet.{idOf, codeOf, parametersOf, extentsOf}
+use Rattle.fdoca.specs.FieldType.{FieldType, fixedBytes, variableBytes, terminatedBytes, shortBytes, integer, reversedInteger, packedDecimal, hexFloat, reversedFloat, binaryFloat, typeOf, Layout, fixed, Size, bytes, digits, inBytes, Sizes, upTo, oneOf, digitsUpTo, allows, ruleOf}
+use Rattle.fdoca.specs.Triplet.{idOf, codeOf, parametersOf, modeOf, sizeIn, extentsOf}
+use Rattle.fdoca.specs.Item.{fieldLength}
 use Rattle.fdoca.specs.Check.{goodLengthSDA, goodType, goodSDA}
 use Rattle.fdoca.proofs.Tests.{and-left, and-right}
 use Rattle.fdoca.specs.Unfolding.{fieldOf}
 use Rattle.fdoca.proofs.Fields.{good-SDA}
 use Rattle.field_types.specs.Rows.{prefixOf, formOf, ruleFor}
-use Rattle.field_types.specs.Parameters.{layoutNumber}
+use Rattle.field_types.specs.declared.Shape.{Shape}
+use Rattle.field_types.specs.Parameters.{layoutNumber, sizeNumber, shapeOf}
+use Rattle.field_types.proofs.Rows.{prefix-below-4}
 use Rattle.plans.specs.Plan.{digitsPart, entryOf, Proper}
 use Rattle.plans.specs.Tied.{lowerOf}
 use Rattle.sdas.specs.Judged.{extentOr1}
@@ -91,69 +94,95 @@ module _ (t : List ℕ) (count lower : ℕ) (g : goodSDA t ≡ true) (e : count 
   size-fits = let h : lower ≤ 4096 = least in record { fits = omega arith }
 
 -- the digits' part of a layout's number
-pub digits-way : (layout a b : ℕ) → layout ≡ 4 → b < 256 → (4 * (a % 2 + 2 * b) ≡ layoutPart layout a b) × (4 * (a % 2 + 2 * b) < 4096)
+pub digits-way : (layout size : ℕ) → layout ≡ 4 → (4 * (size / 256 % 2 + 2 * (size % 256)) ≡ layoutPart layout size) × (4 * (size / 256 % 2 + 2 * (size % 256)) < 4096)
 unfolding layoutPart
-digits-way layout a b e l = (rw e, omega arith)
+digits-way layout size e = (rw e, omega arith)
 
--- a size's parts of the entry, by the type
-parts-of : (T : FieldType) (a b : ℕ) → allows (ruleOf T .sizes) (sizeOf (ruleOf T .sizes) a b) ≡ true
-    → (lengthPart (formOf (ruleOf T .sizes) (ruleOf T .layout)) a b ≡ inBytes (sizeOf (ruleOf T .sizes) a b))
-    × (layoutPart (formOf (ruleOf T .sizes) (ruleOf T .layout)) a b ≡ prefixOf (ruleOf T .layout) + 4 * digitsPart (sizeOf (ruleOf T .sizes) a b))
-    × (digitsPart (sizeOf (ruleOf T .sizes) a b) < 64)
-unfolding ruleOf formOf prefixOf digitsPart lengthPart layoutPart
-parts-of fixedBytes a b h = (refl, refl, lit< tt)
-parts-of variableBytes a b h = (refl, refl, lit< tt)
-parts-of terminatedBytes a b h = (refl, refl, lit< tt)
-parts-of shortBytes a b h = (refl, refl, lit< tt)
-parts-of integer a b h = (refl, refl, lit< tt)
-parts-of reversedInteger a b h = (refl, refl, lit< tt)
-parts-of packedDecimal a b h =
-    let k : (leb 1 a && leb a 18) ≡ true = and-left (leb 1 a && leb a 18) (leb b a) h in
-    let p : a ≤ 18 = leb-true a 18 (and-right (leb 1 a) (leb a 18) k) in
-    let q : b ≤ a = leb-true b a (and-right (leb 1 a && leb a 18) (leb b a) h) in
-    (refl, omega arith, omega arith)
-parts-of hexFloat a b h = (refl, refl, lit< tt)
-parts-of reversedFloat a b h = (refl, refl, lit< tt)
-parts-of binaryFloat a b h = (refl, refl, lit< tt)
+-- where a size is in digits, there are few of them, and the layout is fixed
+abbrev FewDigits : Sizes → Layout → Type 0
+FewDigits (upTo n) l = Unit {0}
+FewDigits (oneOf ns) l = Unit {0}
+FewDigits (digitsUpTo n) l = (n ≤ 18) × (l ≡ fixed)
 
-module _ (t : List ℕ) (long : 12 ≤ length t) where
-  parameter : (i : ℕ) → i < 8 → getD (parametersOf t) i 0 ≡ getD t (4 + i) 0
-  parameter i h = getD-take 8 (drop 4 t) i 0 h ∙ getD-drop 4 t i 0
+few-digits : (T : FieldType) → FewDigits (ruleOf T .sizes) (ruleOf T .layout)
+unfolding ruleOf
+few-digits fixedBytes = tt
+few-digits variableBytes = tt
+few-digits terminatedBytes = tt
+few-digits shortBytes = tt
+few-digits integer = tt
+few-digits reversedInteger = tt
+few-digits packedDecimal = (lit≤ tt, refl)
+few-digits hexFloat = tt
+few-digits reversedFloat = tt
+few-digits binaryFloat = tt
 
-  -- the plan's entry, from its parts
-  pub entry-way : (layout l m c i a b n : ℕ) → goodSDA t ≡ true → layout ≡ layoutNumber (codeOf t) → l ≡ layoutPart layout a b → n ≡ lengthPart layout a b → n < 65536
-      → m ≡ getD t 9 0 → m < 256 → c ≡ getD t 3 0 → c < 256 → i ≡ getD t 2 0 → i < 256 → a ≡ getD t 10 0 → b ≡ getD t 11 0
-      → EntryOf t (n + 65536 * (i + 256 * (c + 256 * (m + 256 * l))))
-  unfolding entryOf layoutNumber ruleFor
-  entry-way layout l m c i a b n good el e₁ e₂ nf em mf ec cf ei ifs ea eb = record { same = λ T q. same T q; proper = λ T q z. fits T q z }
-    where
-      sizes : (T : FieldType) → fieldOf T t .size ≡ sizeOf (ruleOf T .sizes) a b
-      sizes T = rw (parameter 6 (omega arith), parameter 7 (omega arith), ← ea, ← eb)
+-- a size's parts of the entry
+record PartsOf (z : Sizes) (l : Layout) (size : Size) : Type 0 where
+  length-is : lengthPart (formOf z l) (sizeNumber size) ≡ inBytes size
+  layout-is : layoutPart (formOf z l) (sizeNumber size) ≡ prefixOf l + 4 * digitsPart size
+  digits-small : digitsPart size < 64
 
-      parts : (T : FieldType) → typeOf (codeOf t) ≡ some T
-          → (n ≡ inBytes (sizeOf (ruleOf T .sizes) a b)) × (l ≡ prefixOf (ruleOf T .layout) + 4 * digitsPart (sizeOf (ruleOf T .sizes) a b)) × (digitsPart (sizeOf (ruleOf T .sizes) a b) < 64)
-      parts T q =
-          let h : allows (ruleOf T .sizes) (sizeOf (ruleOf T .sizes) a b) ≡ true = rw (sizes T) at (good-SDA t T q good .allowed) in
-          let k : layout ≡ formOf (ruleOf T .sizes) (ruleOf T .layout) = el ∙ ap (λ o. formOf (ruleFor o .sizes) (ruleFor o .layout)) q in
-          let (x, y, z) = parts-of T a b h in
-          (e₂ ∙ ap (λ k. lengthPart k a b) k ∙ x, e₁ ∙ ap (λ k. layoutPart k a b) k ∙ y, z)
+of-bytes : (z : Sizes) (l : Layout) (F : ℕ) → formOf z l ≡ prefixOf l → PartsOf z l (bytes F)
+unfolding lengthPart layoutPart digitsPart
+of-bytes z l F e =
+    let n : eqb (prefixOf l) 4 ≡ false = ne-eqb (prefixOf l) 4 (λ q. omega (arith, prefix-below-4 l)) in
+    record { length-is = rw (e, n); layout-is = rw (e, n) (omega arith); digits-small = lit< tt }
 
-      same : (T : FieldType) → typeOf (codeOf t) ≡ some T → n + 65536 * (i + 256 * (c + 256 * (m + 256 * l))) ≡ entryOf (fieldOf T t)
-      same T q =
-          let (x, y, _) = parts T q in
-          rw (sizes T, parameter 5 (omega arith), ← em, ← ec, ← ei, ← x, ← y)
+parts-of : (z : Sizes) (l : Layout) (size : Size) → FewDigits z l → allows z size ≡ true → PartsOf z l size
+unfolding formOf prefixOf digitsPart lengthPart layoutPart
+parts-of (upTo n) l (bytes F) k h = of-bytes (upTo n) l F refl
+parts-of (oneOf ns) l (bytes F) k h = of-bytes (oneOf ns) l F refl
+parts-of (digitsUpTo n) l (digits p q) k h =
+    let low : (leb 1 p && leb p n) ≡ true = and-left (leb 1 p && leb p n) (leb q p) h in
+    let a : p ≤ n = leb-true p n (and-right (leb 1 p) (leb p n) low) in
+    let b : q ≤ p = leb-true q p (and-right (leb 1 p && leb p n) (leb q p) h) in
+    let (m, e) = k in
+    let x : (p * 256 + q) / 256 ≡ p = omega arith in
+    let y : (p * 256 + q) % 256 ≡ q = omega arith in
+    record { length-is = rw x; layout-is = rw (x, y, e) (omega arith); digits-small = omega arith }
+parts-of (upTo n) l (digits p q) k h = absurd (true≢false (sym h))
+parts-of (oneOf ns) l (digits p q) k h = absurd (true≢false (sym h))
+parts-of (digitsUpTo n) l (bytes F) k h = absurd (true≢false (sym h))
 
-      fits : (T : FieldType) → typeOf (codeOf t) ≡ some T → (idOf t ≡ 0 → ⊥) → Proper (fieldOf T t)
-      fits T q z =
-          let (x, _, y) = parts T q in
-          record {
-            length-fits = rw (sizes T, ← x) nf;
-            id-fits = omega arith;
-            id-given = omega (arith, z);
-            code-fits = omega arith;
-            mode-fits = rw (parameter 5 (omega arith)) (omega arith);
-            digits-fit = rw (sizes T) y;
-          }
+-- the mode of an SDA is its byte 9
+mode-read : (t : List ℕ) → 12 ≤ length t → modeOf (parametersOf t) ≡ getD t 9 0
+mode-read t long = getD-take 8 (drop 4 t) 5 0 (omega arith) ∙ getD-drop 4 t 5 0
+
+-- the plan's entry, from its parts
+pub entry-way : (t : List ℕ) (x : Shape) (size l m c i n : ℕ) → 12 ≤ length t → goodSDA t ≡ true → x ≡ shapeOf (codeOf t) (parametersOf t) → size ≡ x .size
+    → l ≡ layoutPart (x .layout) size → n ≡ lengthPart (x .layout) size → n < 65536
+    → m ≡ getD t 9 0 → m < 256 → c ≡ getD t 3 0 → c < 256 → i ≡ getD t 2 0 → i < 256 → EntryOf t (n + 65536 * (i + 256 * (c + 256 * (m + 256 * l))))
+unfolding entryOf shapeOf layoutNumber ruleFor
+entry-way t x size l m c i n long good ex es el en nf em mf ec cf ei ifs = record { same = λ T q. same T q; proper = λ T q z. fits T q z }
+  where
+    parts : (T : FieldType) → typeOf (codeOf t) ≡ some T → PartsOf (ruleOf T .sizes) (ruleOf T .layout) (fieldOf T t .size)
+    parts T q = parts-of (ruleOf T .sizes) (ruleOf T .layout) (fieldOf T t .size) (few-digits T) (good-SDA t T q good .allowed)
+
+    layout-given : (T : FieldType) → typeOf (codeOf t) ≡ some T → x .layout ≡ formOf (ruleOf T .sizes) (ruleOf T .layout)
+    layout-given T q = ap (λ y. y .layout) ex ∙ ap (λ o. formOf (ruleFor o .sizes) (ruleFor o .layout)) q
+
+    size-given : (T : FieldType) → typeOf (codeOf t) ≡ some T → size ≡ sizeNumber (fieldOf T t .size)
+    size-given T q = es ∙ ap (λ y. y .size) ex ∙ ap (λ o. sizeNumber (sizeIn (ruleFor o) (parametersOf t))) q
+
+    length-given : (T : FieldType) → typeOf (codeOf t) ≡ some T → n ≡ fieldLength (fieldOf T t)
+    length-given T q = en ∙ rw (layout-given T q, size-given T q) (parts T q .length-is)
+
+    same : (T : FieldType) → typeOf (codeOf t) ≡ some T → n + 65536 * (i + 256 * (c + 256 * (m + 256 * l))) ≡ entryOf (fieldOf T t)
+    same T q =
+        let k : l ≡ prefixOf (ruleOf T .layout) + 4 * digitsPart (fieldOf T t .size) = el ∙ rw (layout-given T q, size-given T q) (parts T q .layout-is) in
+        rw (mode-read t long, ← em, ← ec, ← ei, ← length-given T q, ← k)
+
+    fits : (T : FieldType) → typeOf (codeOf t) ≡ some T → (idOf t ≡ 0 → ⊥) → Proper (fieldOf T t)
+    fits T q h =
+        record {
+          length-fits = rw (← length-given T q) nf;
+          id-fits = omega arith;
+          id-given = omega (arith, h);
+          code-fits = omega arith;
+          mode-fits = rw (mode-read t long) (omega arith);
+          digits-fit = parts T q .digits-small;
+        }
 
 pub put-way : (t s z e : List ℕ) (p i count lower entry : ℕ) → i ≡ getD t 2 0 → i < 256 → lower ≡ lowerOf (extentsOf t) → count ≡ product (extentsOf t)
     → EntryOf t entry → PutSDA t p s z e (set s i p) (set z i (count + 65536 * lower)) (set e i entry)

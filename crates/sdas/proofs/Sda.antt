@@ -1,6 +1,6 @@
 -- An SDA's bytes: its LENGTH, its extents and their product, and what makes its parameters good.
 -- Assumes nothing.
-use mathlib.Core.Path.{_≡_, refl, sym, ap, _∙_}
+use mathlib.Core.Path.{_≡_, refl, sym, subst, _∙_}
 use mathlib.Core.Logic.{_≢_}
 use Prim.Native.Nat.{ℕ, zero, suc, _+_, _*_, _≤_, _<_}
 use native.Mathlib.Omega.{arith}
@@ -18,8 +18,9 @@ use Rattle.fdoca.specs.Basics.{if_then_else_, elem, product, refuse}
 use Rattle.fdoca.specs.Triplet.{pairs, extentsOf, idOf, codeOf, parametersOf}
 use Rattle.fdoca.specs.FieldType.{typeOf}
 use Rattle.fdoca.specs.Check.{Entry, isDescribed, goodLengthSDA, goodType, goodSDA, checkSDA}
-use Rattle.field_types.specs.Parameters.{goodEight, layoutIf}
-use Rattle.field_types.proofs.Allowed.{good-eight, layout-none, layout-some, layout-is}
+use Rattle.field_types.specs.declared.Shape.{Shape}
+use Rattle.field_types.specs.Parameters.{goodEight, noShape, Shaped}
+use Rattle.field_types.proofs.Allowed.{good-eight, shape-none, shape-some}
 use Rattle.sdas.specs.declared.Judged.{Judged}
 use Rattle.sdas.specs.Tables.{Agrees}
 use Rattle.sdas.specs.Judged.{extentOr1, described, JudgedSDA}
@@ -114,7 +115,7 @@ no-zero (suc x ∷ xs) = let e : eqb 0 (suc x) ≡ false = ne-eqb 0 (suc x) (λ 
 parameters-length : (t : List ℕ) → 12 ≤ length t → length (parametersOf t) ≡ 8
 parameters-length t h = length-take-le 8 (drop 4 t) (omega (arith, length-drop 4 t))
 
--- the ways through `sda_layout`
+-- the ways through `sda_shape`
 module _ (t : List ℕ) where
   pub bad-id : getD t 2 0 ≡ 0 → goodSDA t ≡ false
   bad-id e = simp (eq-eqb (getD t 2 0) 0 e)
@@ -122,46 +123,47 @@ module _ (t : List ℕ) where
   pub bad-extents : (n : ℕ) → n ≡ product (extentsOf t) → n ≡ 0 → goodSDA t ≡ false
   bad-extents n c z = rw (no-zero (extentsOf t), ← c, z) (and-false (not (eqb (idOf t) 0) && goodType (typeOf (codeOf t)) (parametersOf t)))
 
-  pub good-rest : (n layout : ℕ) → goodLengthSDA t ≡ true → (getD t 2 0 ≡ 0 → ⊥) → n ≡ product (extentsOf t) → (n ≡ 0 → ⊥)
-      → layout ≡ layoutIf (goodEight (getD t 3 0) (parametersOf t)) (getD t 3 0) → layout ≡ layoutIf (goodSDA t) (codeOf t)
-  good-rest n layout l i c z e =
+  pub good-rest : (n : ℕ) (x : Shape) → goodLengthSDA t ≡ true → (getD t 2 0 ≡ 0 → ⊥) → n ≡ product (extentsOf t) → (n ≡ 0 → ⊥)
+      → Shaped (goodEight (getD t 3 0) (parametersOf t)) (getD t 3 0) (parametersOf t) x → Shaped (goodSDA t) (codeOf t) (parametersOf t) x
+  good-rest n x l i c z e =
       let g : goodEight (getD t 3 0) (parametersOf t) ≡ goodType (typeOf (codeOf t)) (parametersOf t) = good-eight (getD t 3 0) (parametersOf t) (parameters-length t (at-least-12 t l)) in
       let p : not (elem 0 (extentsOf t)) ≡ true = no-zero (extentsOf t) ∙ rw (← c) (lt-ltb 0 n (omega (arith, z))) in
-      e ∙ ap (λ b. layoutIf b (codeOf t)) (simp (ne-eqb (getD t 2 0) 0 i, p, g, and-true))
+      subst (λ b. Shaped b (codeOf t) (parametersOf t) x) (simp (ne-eqb (getD t 2 0) 0 i, p, g, and-true)) e
 
 -- the ways through judging an SDA
 module _ (t s : List ℕ) (r : Judged) where
-  refused-by : (n : ℕ) → n ≢ 0 → r ≡ record { number = n; layout = 0; count = 0 }
+  refused-by : (n : ℕ) → n ≢ 0 → r ≡ record { number = n; shape = noShape; count = 0 }
       → ((p : ℕ) (z : List ℕ) (es : List (ℕ × Entry)) → Agrees s z es → checkSDA es p t ≡ refuse n p) → JudgedSDA t s r
   refused-by n h e f =
       record {
         result = λ p z es a. f p z es a ∙ rw e (refused-outcome n p (described (idOf t) (extentsOf t) es) h);
         count = λ q. absurd (not-0 q);
-        layout = λ q. absurd (not-0 q);
+        shape = λ q. absurd (not-0 q);
         no-count = λ q. rw e;
-        no-layout = λ q. rw e;
+        no-shape = λ q. rw e;
         length-good = λ q. absurd (not-0 q);
         good = λ q. absurd (not-0 q);
         small = rw e (omega arith);
+        size-small = rw e (omega arith);
       }
     where
       not-0 : r .number ≡ 0 → ⊥
       not-0 q = h (rw e at q)
 
-  pub sda-bad-length : (a : Bool) → r ≡ record { number = 5; layout = 0; count = 0 } → a ≡ goodLengthSDA t → a ≡ false → JudgedSDA t s r
+  pub sda-bad-length : (a : Bool) → r ≡ record { number = 5; shape = noShape; count = 0 } → a ≡ goodLengthSDA t → a ≡ false → JudgedSDA t s r
   unfolding checkSDA
   sda-bad-length a e h f = refused-by 5 (λ q. omega arith) e (λ p z es k. rw (← h, f))
 
-  module _ (a : Bool) (layout : ℕ) (h : a ≡ goodLengthSDA t) (f : a ≡ true) (g : layout ≡ layoutIf (goodSDA t) (codeOf t)) where
-    pub sda-bad : r ≡ record { number = 6; layout = 0; count = 0 } → layout ≡ 255 → JudgedSDA t s r
+  module _ (a : Bool) (x : Shape) (h : a ≡ goodLengthSDA t) (f : a ≡ true) (g : Shaped (goodSDA t) (codeOf t) (parametersOf t) x) where
+    pub sda-bad : r ≡ record { number = 6; shape = noShape; count = 0 } → x .layout ≡ 255 → JudgedSDA t s r
     unfolding checkSDA
-    sda-bad e n = refused-by 6 (λ q. omega arith) e (λ p z es k. rw (← h, f, layout-none layout (codeOf t) (goodSDA t) g n))
+    sda-bad e n = refused-by 6 (λ q. omega arith) e (λ p z es k. rw (← h, f, shape-none (codeOf t) (parametersOf t) x (goodSDA t) g n))
 
-    module _ (i : ℕ) (n : layout ≡ 255 → ⊥) (j : i ≡ getD t 2 0) (l : i < 256) where
+    module _ (i : ℕ) (n : x .layout ≡ 255 → ⊥) (j : i ≡ getD t 2 0) (l : i < 256) where
       good : goodSDA t ≡ true
-      good = layout-some layout (codeOf t) (goodSDA t) g n
+      good = shape-some (codeOf t) (parametersOf t) x (goodSDA t) g n
 
-      pub sda-taken : r ≡ record { number = 7; layout = 0; count = 0 } → (getD s i 0 ≡ 65535 → ⊥) → JudgedSDA t s r
+      pub sda-taken : r ≡ record { number = 7; shape = noShape; count = 0 } → (getD s i 0 ≡ 65535 → ⊥) → JudgedSDA t s r
       unfolding checkSDA
       sda-taken e u =
           refused-by 7 (λ q. omega arith) e
@@ -173,24 +175,25 @@ module _ (t s : List ℕ) (r : Judged) where
         new : (z : List ℕ) (es : List (ℕ × Entry)) → Agrees s z es → isDescribed (idOf t) es ≡ false
         new z es w = not-described s z es (idOf t) (rw j at l) (rw j at u) w
 
-        pub sda-many : (most : ℕ) → r ≡ record { number = 10; layout = 0; count = 0 } → 4096 ≤ most → most < count → JudgedSDA t s r
+        pub sda-many : (most : ℕ) → r ≡ record { number = 10; shape = noShape; count = 0 } → 4096 ≤ most → most < count → JudgedSDA t s r
         unfolding checkSDA
         sda-many most e o k =
             refused-by 10 (λ q. omega arith) e (λ p z es w. rw (← h, f, good, new z es w, ← m, lt-ltb 4096 count (omega arith)))
 
-        pub sda-fine : r ≡ record { number = 0; layout = layout; count = count } → count ≤ 4096 → JudgedSDA t s r
+        pub sda-fine : r ≡ record { number = 0; shape = x; count = count } → count ≤ 4096 → JudgedSDA t s r
         unfolding checkSDA
         sda-fine e k =
             record {
               result = λ p z es w.
                   rw (← h, f, good, new z es w, ← m, le-ltb 4096 count k, e) (found-outcome 0 p (described (idOf t) (extentsOf t) es) refl);
               count = λ q. rw e m;
-              layout = λ q. rw e (layout-is layout (codeOf t) (goodSDA t) g good);
+              shape = λ q. rw e (rw good at (g .same));
               no-count = λ q. absurd (q (rw e));
-              no-layout = λ q. absurd (q (rw e));
+              no-shape = λ q. absurd (q (rw e));
               length-good = λ q. sym h ∙ f;
               good = λ q. good;
               small = rw e k;
+              size-small = rw e (g .small);
             }
 
 -- an SDA of good length has its first 12 bytes

@@ -1,5 +1,5 @@
 -- What judging an SDA gives.
-use Prim.Native.Nat.{ℕ, _+_, _≤_}
+use Prim.Native.Nat.{ℕ, _+_, _≤_, _<_}
 use mathlib.Core.Path.{_≡_}
 use mathlib.Core.Logic.{_≢_}
 use mathlib.Core.Bool.{true}
@@ -8,9 +8,9 @@ use mathlib.Core.Option.{none}
 use lib.Dec.{ltb}
 use lib.ListN.{length, getD}
 use Rattle.fdoca.specs.Basics.{if_then_else_, big, product}
-use Rattle.fdoca.specs.Triplet.{idOf, codeOf, extentsOf}
+use Rattle.fdoca.specs.Triplet.{idOf, codeOf, parametersOf, extentsOf}
 use Rattle.fdoca.specs.Check.{Entry, array, State, goodLengthSDA, goodSDA, checkSDA}
-use Rattle.field_types.specs.Parameters.{layoutNumber}
+use Rattle.field_types.specs.Parameters.{shapeOf, noShape}
 use Rattle.sdas.specs.declared.Judged.{Judged}
 use Rattle.sdas.specs.Tables.{outcome, Agrees}
 
@@ -27,9 +27,10 @@ pub record JudgedSDA (t s : List ℕ) (r : Judged) : Type 0 where
   pub result : (p : ℕ) (z : List ℕ) (es : List (ℕ × Entry)) → Agrees s z es
       → checkSDA es p t ≡ outcome (r .number) p (described (idOf t) (extentsOf t) es)
   pub count : r .number ≡ 0 → r .count ≡ product (extentsOf t)
-  pub layout : r .number ≡ 0 → r .layout ≡ layoutNumber (codeOf t)
+  pub shape : r .number ≡ 0 → r .shape ≡ shapeOf (codeOf t) (parametersOf t)
   pub no-count : r .number ≢ 0 → r .count ≡ 0
-  pub no-layout : r .number ≢ 0 → r .layout ≡ 0
+  pub no-shape : r .number ≢ 0 → r .shape ≡ noShape
   pub length-good : r .number ≡ 0 → goodLengthSDA t ≡ true
   pub good : r .number ≡ 0 → goodSDA t ≡ true
   pub small : r .count ≤ 4096
+  pub size-small : r .shape .size < 65536

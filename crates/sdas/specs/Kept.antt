@@ -12,13 +12,13 @@ use Rattle.fdoca.specs.Unfolding.{fieldOf}
 use Rattle.plans.specs.Plan.{entryOf, Proper}
 use Rattle.plans.specs.Tied.{lowerOf}
 
--- The parts of a plan's entry that the two bytes of a size make, by the layout's number: its length in bytes, and the layout's number with the
--- digits' part.
-unfoldable pub lengthPart : (layout a b : ℕ) → ℕ
-lengthPart layout a b = if eqb layout 4 then a / 2 + 1 else a * 256 + b
+-- The parts of a plan's entry that a size makes, given as one number, by the layout's number: its length in bytes, and the layout's number
+-- with the digits' part.
+unfoldable pub lengthPart : (layout size : ℕ) → ℕ
+lengthPart layout size = if eqb layout 4 then size / 256 / 2 + 1 else size
 
-unfoldable pub layoutPart : (layout a b : ℕ) → ℕ
-layoutPart layout a b = if eqb layout 4 then 4 * (a % 2 + 2 * b) else layout
+unfoldable pub layoutPart : (layout size : ℕ) → ℕ
+layoutPart layout size = if eqb layout 4 then 4 * (size / 256 % 2 + 2 * (size % 256)) else layout
 
 -- The plan's entry for the field of an SDA's bytes t.
 pub record EntryOf (t : List ℕ) (r : ℕ) : Type 0 where

@@ -2,14 +2,15 @@
 ghost use mathlib.Core.Path.{_≡_};
 ghost use Prim.Native.Nat.{_*_, _≤_, _<_};
 ghost use mathlib.Core.Bool.{true};
-ghost use Rattle.fdoca.specs.Triplet.{codeOf, extentsOf};
+ghost use Rattle.fdoca.specs.Triplet.{codeOf, parametersOf, extentsOf};
 ghost use Rattle.fdoca.specs.Basics.{product};
 ghost use Rattle.fdoca.specs.Check.{goodLengthSDA, goodSDA};
 ghost use Rattle.field_types.specs.Rows.{RowTable};
-ghost use Rattle.field_types.specs.Parameters.{layoutNumber, layoutIf};
+ghost use Rattle.field_types.specs.Parameters.{shapeOf, noShape, Shaped};
 ghost use Rattle.plans.specs.Tied.{lowerOf};
 ghost use Rattle.sdas.specs.Judged.{extentOr1, JudgedSDA};
 ghost use Rattle.sdas.specs.Kept.{lengthPart, layoutPart, EntryOf, PutSDA};
+use field_types::Shape;
 use numbers::wide64;
 
 // The largest count of items.
@@ -18,19 +19,22 @@ pub const MOST: usize = 4096;
 // The position of an id that no triplet has described.
 pub const NOWHERE: u16 = 65535;
 
-// What judging an SDA gives: its layout's number and its item count, or the number of its refusal.
+// What judging an SDA gives: its shape and its item count, or the number of its refusal.
 pub struct Judged {
     pub number: u8,
-    pub layout: u8,
+    pub shape: Shape,
     pub count: usize,
 }
 
 fn refused(number: u8) -> Judged
-    ensures { λ r. ⌜ r ≡ record { number = number; layout = 0; count = 0 } ⌝ }
+    ensures { λ r. ⌜ r ≡ record { number = number; shape = noShape; count = 0 } ⌝ }
 {
     Judged {
         number: number,
-        layout: 0,
+        shape: Shape {
+            layout: field_types::NO_LAYOUT,
+            size: 0,
+        },
         count: 0,
     }
 }
@@ -81,21 +85,21 @@ fn item_count(t: &[u8]) -> usize
     extent(t, 12) * lower_product(t)
 }
 
-// The layout's number of an SDA whose id, type, parameters and extents are good, else NO_LAYOUT.
-fn sda_layout(t: &[u8], rows: &[u8; 256]) -> u8
+// The shape of an SDA whose id, type, parameters and extents are good, else `no_shape`.
+fn sda_shape(t: &[u8], rows: &[u8; 256]) -> Shape
     requires { ⌜ RowTable (now rows) × (goodLengthSDA (now t) ≡ true) ⌝ }
-    ensures { λ r. ⌜ r ≡ layoutIf (goodSDA (now (t .entry))) (codeOf (now (t .entry))) ⌝ }
+    ensures { λ r. ⌜ Shaped (goodSDA (now (t .entry))) (codeOf (now (t .entry))) (parametersOf (now (t .entry))) r ⌝ }
 {
     if t[2] == 0 {
-        return field_types::NO_LAYOUT;
+        return field_types::no_shape();
     }
     if item_count(t) == 0 {
-        return field_types::NO_LAYOUT;
+        return field_types::no_shape();
     }
-    field_types::layout_of(rows, t[3], &t[4..12])
+    field_types::shape_of(rows, t[3], &t[4..12])
 }
 
-// An SDA's layout and item count, or the number of its refusal.
+// An SDA's shape and item count, or the number of its refusal.
 pub fn judge_sda(t: &[u8], rows: &[u8; 256], starts: &[u16; 256]) -> Judged
     requires { ⌜ RowTable (now rows) ⌝ }
     ensures { λ r. ⌜ JudgedSDA (now (t .entry)) (now (starts .entry)) r ⌝ }
@@ -103,8 +107,8 @@ pub fn judge_sda(t: &[u8], rows: &[u8; 256], starts: &[u16; 256]) -> Judged
     if !sda_length(t) {
         return refused(5);
     }
-    let layout = sda_layout(t, rows);
-    if layout == field_types::NO_LAYOUT {
+    let shape = sda_shape(t, rows);
+    if shape.layout == field_types::NO_LAYOUT {
         return refused(6);
     }
     let id = numbers::wide(t[2]);
@@ -117,44 +121,43 @@ pub fn judge_sda(t: &[u8], rows: &[u8; 256], starts: &[u16; 256]) -> Judged
     }
     Judged {
         number: 0,
-        layout: layout,
+        shape: shape,
         count: n,
     }
 }
 
-// The length in bytes that an SDA's two bytes of size say: p / 2 + 1 of p digits.
-fn length_part(layout: u8, a: u64, b: u64) -> u64
-    requires { ⌜ (a < 256) × (b < 256) ⌝ }
-    ensures { λ r. ⌜ (r ≡ lengthPart layout a b) × (r < 65536) ⌝ }
+// The length in bytes of a size: p / 2 + 1 of p digits.
+fn length_part(layout: u8, size: u64) -> u64
+    requires { ⌜ size < 65536 ⌝ }
+    ensures { λ r. ⌜ (r ≡ lengthPart layout size) × (r < 65536) ⌝ }
 {
     if layout == field_types::DIGITS {
-        return a / 2 + 1;
+        return size / 256 / 2 + 1;
     }
-    a * 256 + b
+    size
 }
 
 // The layout's number in a plan, and of digits whether they are odd in number, and the fraction digits.
-fn layout_part(layout: u8, a: u64, b: u64) -> u64
-    requires { ⌜ (a < 256) × (b < 256) ⌝ }
-    ensures { λ r. ⌜ (r ≡ layoutPart layout a b) × (r < 4096) ⌝ }
+fn layout_part(layout: u8, size: u64) -> u64
+    requires { ⌜ size < 65536 ⌝ }
+    ensures { λ r. ⌜ (r ≡ layoutPart layout size) × (r < 4096) ⌝ }
 {
     if layout == field_types::DIGITS {
-        return 4 * (a % 2 + 2 * b);
+        return 4 * (size / 256 % 2 + 2 * (size % 256));
     }
     wide64(layout)
 }
 
 // The plan's entry for an SDA's field.
-fn plan_entry(t: &[u8], layout: u8) -> u64
-    requires { ⌜ (goodLengthSDA (now t) ≡ true) × (goodSDA (now t) ≡ true) × (layout ≡ layoutNumber (codeOf (now t))) ⌝ }
+fn plan_entry(t: &[u8], shape: Shape) -> u64
+    requires { ⌜ (goodLengthSDA (now t) ≡ true) × (goodSDA (now t) ≡ true) × (shape ≡ shapeOf (codeOf (now t)) (parametersOf (now t))) × (shape .size < 65536) ⌝ }
     ensures { λ r. ⌜ EntryOf (now (t .entry)) r ⌝ }
 {
-    let a = wide64(t[10]);
-    let b = wide64(t[11]);
-    let mode = wide64(t[9]) + 256 * layout_part(layout, a, b);
+    let size = shape.size as u64;
+    let mode = wide64(t[9]) + 256 * layout_part(shape.layout, size);
     let code = wide64(t[3]) + 256 * mode;
     let id = wide64(t[2]) + 256 * code;
-    length_part(layout, a, b) + 65536 * id
+    length_part(shape.layout, size) + 65536 * id
 }
 
 // The product by which elements taken is multiplied: 0 without extents.
@@ -177,12 +180,12 @@ pub fn put_sda(
     sizes: &mut [u32; 256],
     entries: &mut [u64; 256],
 )
-    requires { ⌜ (goodLengthSDA (now t) ≡ true) × (goodSDA (now t) ≡ true) × (p < 4096) × (judged .count ≡ product (extentsOf (now t))) × (judged .count ≤ 4096) × (judged .layout ≡ layoutNumber (codeOf (now t))) ⌝ }
+    requires { ⌜ (goodLengthSDA (now t) ≡ true) × (goodSDA (now t) ≡ true) × (p < 4096) × (judged .count ≡ product (extentsOf (now t))) × (judged .count ≤ 4096) × (judged .shape ≡ shapeOf (codeOf (now t)) (parametersOf (now t))) × (judged .shape .size < 65536) ⌝ }
     ensures { λ _. ⌜ PutSDA (now (t .entry)) p (now (starts .entry)) (now (sizes .entry)) (now (entries .entry)) (now (starts .exit)) (now (sizes .exit)) (now (entries .exit)) ⌝ }
 {
     let id = numbers::wide(t[2]);
     let lower = lower_of(t);
     starts[id] = p as u16;
     sizes[id] = (judged.count + 65536 * lower) as u32;
-    entries[id] = plan_entry(t, judged.layout);
+    entries[id] = plan_entry(t, judged.shape);
 }

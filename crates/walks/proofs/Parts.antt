@@ -1,22 +1,15 @@
 -- The parts of a plan's number, marked or not, are those of its field, and so it says to measure the field's item.
 -- Assumes nothing.
-use Prim.Native.Nat.{ℕ, _+_, _*_, _/_, _%_, _<_}
+use Prim.Native.Nat.{ℕ, _+_, _*_, _/_, _%_}
 use mathlib.Core.Path.{_≡_}
 use mathlib.Core.List.{List}
 use native.Mathlib.Omega.{arith}
-use Rattle.fdoca.specs.FieldType.{Layout, fixed, counted, terminated, signedTwo, unsignedOne, ruleOf}
+use Rattle.fdoca.specs.FieldType.{ruleOf}
 use Rattle.fdoca.specs.Item.{Field, fieldLength, measure}
 use Rattle.field_types.specs.Rows.{prefixOf}
-use Rattle.field_types.proofs.Rows.{layout-back}
+use Rattle.field_types.proofs.Rows.{layout-back, prefix-below-4}
 use Rattle.plans.specs.Plan.{digitsPart, entryOf, Proper}
 use Rattle.walks.specs.Entry.{measureEntry}
-
-small : (l : Layout) → prefixOf l < 4
-unfolding prefixOf
-small fixed = omega arith
-small (counted signedTwo) = omega arith
-small (counted unsignedOne) = omega arith
-small terminated = omega arith
 
 -- the parts of the entry of f with the mark p, which is 0 in a plan that no walk has marked
 module _ (f : Field) (p : ℕ) (h : Proper f) where
@@ -41,19 +34,19 @@ module _ (f : Field) (p : ℕ) (h : Proper f) where
 
   pub layout-part : marked / 1099511627776 % 4 ≡ prefixOf (ruleOf (f .type) .layout)
   unfolding entryOf
-  layout-part = omega (arith, h .length-fits, h .id-fits, h .code-fits, h .mode-fits, small (ruleOf (f .type) .layout))
+  layout-part = omega (arith, h .length-fits, h .id-fits, h .code-fits, h .mode-fits, prefix-below-4 (ruleOf (f .type) .layout))
 
   pub digits-part : marked / 4398046511104 % 64 ≡ digitsPart (f .size)
   unfolding entryOf
-  digits-part = omega (arith, h .length-fits, h .id-fits, h .code-fits, h .mode-fits, small (ruleOf (f .type) .layout), h .digits-fit)
+  digits-part = omega (arith, h .length-fits, h .id-fits, h .code-fits, h .mode-fits, prefix-below-4 (ruleOf (f .type) .layout), h .digits-fit)
 
   pub entry-part : marked % 281474976710656 ≡ entryOf f
   unfolding entryOf
-  entry-part = omega (arith, h .length-fits, h .id-fits, h .code-fits, h .mode-fits, small (ruleOf (f .type) .layout), h .digits-fit)
+  entry-part = omega (arith, h .length-fits, h .id-fits, h .code-fits, h .mode-fits, prefix-below-4 (ruleOf (f .type) .layout), h .digits-fit)
 
   pub mark-part : marked / 281474976710656 ≡ p
   unfolding entryOf
-  mark-part = omega (arith, h .length-fits, h .id-fits, h .code-fits, h .mode-fits, small (ruleOf (f .type) .layout), h .digits-fit)
+  mark-part = omega (arith, h .length-fits, h .id-fits, h .code-fits, h .mode-fits, prefix-below-4 (ruleOf (f .type) .layout), h .digits-fit)
 
 -- an entry says to measure its field's item
 pub entry-measures : (f : Field) (p : ℕ) (s : List ℕ) → Proper f → measureEntry (entryOf f + 281474976710656 * p) s ≡ measure f s

@@ -4,12 +4,6 @@ use borrow.Author.Needs.{needs}
 use Rattle.field_types.proofs.size_allowed.Statement.{statement}
 use Rattle.field_types.proofs.size_allowed.Tie as tie
 
-mul-length-allowed : tie.Need-mul-length-allowed
-mul-length-allowed c = search needs
-
-add-length-allowed : tie.Need-add-length-allowed
-add-length-allowed c = search needs
-
 length-allowed-requires : tie.Need-length-allowed-requires
 length-allowed-requires c κs = search needs
 
@@ -25,12 +19,4 @@ unfolding sizeAllowed
 returns-2 c = search tests
 
 pub size-allowed-spec : {M : Type 1} → statement M
-size-allowed-spec =
-    tie.close
-    (tie.spec
-    mul-length-allowed
-    add-length-allowed
-    length-allowed-requires
-    returns
-    digits-allowed-requires
-    returns-2)
+size-allowed-spec = tie.close (tie.spec length-allowed-requires returns digits-allowed-requires returns-2)

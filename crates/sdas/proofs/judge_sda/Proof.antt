@@ -14,8 +14,8 @@ refused-requires c κs = search needs
 returns : tie.Need-returns
 returns c = search (sda-bad-length, not-true)
 
-sda-layout-requires : tie.Need-sda-layout-requires
-sda-layout-requires c κs = search (is-true, not-false)
+sda-shape-requires : tie.Need-sda-shape-requires
+sda-shape-requires c κs = search (is-true, not-false)
 
 refused-requires-2 : tie.Need-refused-requires-2
 refused-requires-2 c κs = search needs
@@ -60,7 +60,7 @@ judge-sda-spec =
     sda-length-requires
     refused-requires
     returns
-    sda-layout-requires
+    sda-shape-requires
     refused-requires-2
     returns-2
     shared-slice-read-wide

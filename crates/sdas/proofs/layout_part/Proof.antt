@@ -15,7 +15,7 @@ mul-result-2 : tie.Need-mul-result-2
 mul-result-2 c = search needs
 
 returns : tie.Need-returns
-returns c = digits-way _ _ _ (search needs) (search needs)
+returns c = digits-way _ _ (search needs)
 
 wide64-requires : tie.Need-wide64-requires
 wide64-requires c κs = search needs

@@ -11,15 +11,9 @@ returns : tie.Need-returns
 unfolding lengthPart
 returns c = search (needs, tests)
 
-mul-result : tie.Need-mul-result
-mul-result c = search needs
-
-add-result-2 : tie.Need-add-result-2
-add-result-2 c = search needs
-
 returns-2 : tie.Need-returns-2
 unfolding lengthPart
 returns-2 c = search (needs, tests)
 
 pub length-part-spec : {M : Type 1} → statement M
-length-part-spec = tie.close (tie.spec add-result returns mul-result add-result-2 returns-2)
+length-part-spec = tie.close (tie.spec add-result returns returns-2)

@@ -10,18 +10,6 @@ shared-slice-read-wide64 c = search (needs, has)
 wide64-requires : tie.Need-wide64-requires
 wide64-requires c κs = search needs
 
-shared-slice-read-wide64-2 : tie.Need-shared-slice-read-wide64-2
-shared-slice-read-wide64-2 c = search (needs, has)
-
-wide64-requires-2 : tie.Need-wide64-requires-2
-wide64-requires-2 c κs = search needs
-
-shared-slice-read-wide64-3 : tie.Need-shared-slice-read-wide64-3
-shared-slice-read-wide64-3 c = search (needs, has)
-
-wide64-requires-3 : tie.Need-wide64-requires-3
-wide64-requires-3 c κs = search needs
-
 layout-part-requires : tie.Need-layout-part-requires
 layout-part-requires c κs = search needs
 
@@ -31,11 +19,11 @@ mul-mode c = search needs
 add-mode : tie.Need-add-mode
 add-mode c = search needs
 
-shared-slice-read-wide64-4 : tie.Need-shared-slice-read-wide64-4
-shared-slice-read-wide64-4 c = search (needs, has)
+shared-slice-read-wide64-2 : tie.Need-shared-slice-read-wide64-2
+shared-slice-read-wide64-2 c = search (needs, has)
 
-wide64-requires-4 : tie.Need-wide64-requires-4
-wide64-requires-4 c κs = search needs
+wide64-requires-2 : tie.Need-wide64-requires-2
+wide64-requires-2 c κs = search needs
 
 mul-code : tie.Need-mul-code
 mul-code c = search needs
@@ -43,11 +31,11 @@ mul-code c = search needs
 add-code : tie.Need-add-code
 add-code c = search needs
 
-shared-slice-read-wide64-5 : tie.Need-shared-slice-read-wide64-5
-shared-slice-read-wide64-5 c = search (needs, has)
+shared-slice-read-wide64-3 : tie.Need-shared-slice-read-wide64-3
+shared-slice-read-wide64-3 c = search (needs, has)
 
-wide64-requires-5 : tie.Need-wide64-requires-5
-wide64-requires-5 c κs = search needs
+wide64-requires-3 : tie.Need-wide64-requires-3
+wide64-requires-3 c κs = search needs
 
 mul-id : tie.Need-mul-id
 mul-id c = search needs
@@ -73,19 +61,15 @@ plan-entry-spec =
     (tie.spec
     shared-slice-read-wide64
     wide64-requires
-    shared-slice-read-wide64-2
-    wide64-requires-2
-    shared-slice-read-wide64-3
-    wide64-requires-3
     layout-part-requires
     mul-mode
     add-mode
-    shared-slice-read-wide64-4
-    wide64-requires-4
+    shared-slice-read-wide64-2
+    wide64-requires-2
     mul-code
     add-code
-    shared-slice-read-wide64-5
-    wide64-requires-5
+    shared-slice-read-wide64-3
+    wide64-requires-3
     mul-id
     add-id
     length-part-requires
