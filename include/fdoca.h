@@ -74,7 +74,8 @@ enum fdoca_number {
     FDOCA_INVALID_LENGTH = 5,
 
     /* An SDA's or RLO's own id is 0, a field type has no rule, its parameters do not fit the rule, an extent is 0, or a
-     * CPT or an ISD has wrong contents. Place: the triplet. */
+     * CPT or an ISD has wrong contents. Most field lengths that do not fit a float are replaced instead: see enum
+     * fdoca_type. Place: the triplet. */
     FDOCA_PARAMETER_NOT_ACCEPTABLE = 6,
 
     /* An SDA's or RLO's id was described before. Place: the triplet. */
@@ -127,6 +128,9 @@ enum fdoca_number {
  * The field types: the type code, in decimal with that of the nullable form behind it, and what the value of an item is. A
  * nullable form has the code plus X'80'; its items begin with a null indicator of one byte, and only they can be null. Which
  * characters the bytes of a string stand for is not told.
+ *
+ * A float whose SDA gives a field length other than 4, 8 or 16 has the default of its type: 8 bytes if it is hexadecimal,
+ * 4 if it is binary. So all eight parameter bytes may be 0. A binary float of 16 bytes is refused by 6.
  */
 enum fdoca_type {
     FDOCA_TYPE_FIXED = 0x01,          /* 1, 129: a string of bytes, as long as its field */
@@ -136,9 +140,9 @@ enum fdoca_type {
     FDOCA_TYPE_WHOLE = 0x23,          /* 35, 163: a signed whole number, most significant byte first */
     FDOCA_TYPE_WHOLE_REVERSED = 0x24, /* 36, 164: a signed whole number, least significant byte first */
     FDOCA_TYPE_PACKED = 0x30,         /* 48, 176: a packed decimal: 1 to 18 digits, two to a byte, and a sign */
-    FDOCA_TYPE_HEX_FLOAT = 0x40,      /* 64, 192: a hexadecimal float */
-    FDOCA_TYPE_FLOAT_REVERSED = 0x47, /* 71, 199: a binary float, least significant byte first */
-    FDOCA_TYPE_FLOAT = 0x48           /* 72, 200: a binary float, most significant byte first */
+    FDOCA_TYPE_HEX_FLOAT = 0x40,      /* 64, 192: a hexadecimal float of 4, 8 or 16 bytes */
+    FDOCA_TYPE_FLOAT_REVERSED = 0x47, /* 71, 199: a binary float of 4 or 8 bytes, least significant first */
+    FDOCA_TYPE_FLOAT = 0x48           /* 72, 200: a binary float of 4 or 8 bytes, most significant first */
 };
 
 /*

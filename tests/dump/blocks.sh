@@ -54,6 +54,7 @@ triplet 3 12 "${S}0272"
 triplet 4 12 "${S}067F00B10001"
 triplet 5 18 "$S${twice}0571A2B100"
 triplet 6 12 "${S}0C7000810000000000000003"
+triplet 6 0 0C70B1480000000000000010
 triplet 7 12 "$S$S"
 triplet 8 12 "${S}0671A1B20001"
 triplet 9 12 "${S}0671A1B10000"
@@ -62,6 +63,7 @@ nothing='no field and no row before its end,'
 refuses 11 0 "$nothing $(in_descriptor 0)" '' ''
 refuses 11 5 "$nothing $(in_descriptor 5)" 057E000000 61
 item 13 4 "$S$twice" 00616263
+item 13 8 "0C70B1400000000000000000$twice" 416800000000000041680000000000
 item 14 3 "0C70B1020000000000010004$twice" 0001610005
 item 15 2 "0C70B1030000000000010002$twice" 6100616263
 refuses 16 5 "the first byte left over is $(in_data 5 18)" "$S$twice" 006162638000

@@ -8,61 +8,6 @@
 #define V(mode, length) M("02", mode, length)
 #define Z(mode, length) M("03", mode, length)
 
-/* Entries behind the list that a call is not told of. */
-#define GUARD 64
-
-static uint32_t *old_list(size_t size)
-{
-    uint32_t *list = room((size + GUARD) * sizeof *list);
-
-    for (size_t i = 0; i < size + GUARD; i++)
-        list[i] = OLD;
-    return list;
-}
-
-static bool still_old(const uint32_t *list, size_t from, size_t size)
-{
-    for (size_t i = from; i < size + GUARD; i++)
-        if (list[i] != OLD)
-            return false;
-    return true;
-}
-
-/* ---- the list call, with all that it gives, and what the calls for one item refuse alike */
-
-static bool list_refuses(struct bytes d, struct bytes s, size_t list_size, uint32_t number, uint32_t place)
-{
-    uint32_t got_place = OLD;
-    uint32_t *list = old_list(list_size);
-    uint32_t got = fdoca_list(d.at, d.size, s.at, s.size, list, list_size, &got_place);
-    bool good = got == number && got_place == place && still_old(list, 0, list_size);
-
-    free(list);
-    return good;
-}
-
-/* The list of `size` entries holds `expected` of them, and its old contents beyond. */
-static bool list_gives(struct bytes d, struct bytes s, size_t size, const uint32_t *expected, size_t expected_size)
-{
-    uint32_t got_place = OLD;
-    uint32_t *list = old_list(size);
-    uint32_t got = fdoca_list(d.at, d.size, s.at, s.size, list, size, &got_place);
-    bool good = got == 0 && got_place == 0 && memcmp(list, expected, expected_size * sizeof *list) == 0 &&
-                still_old(list, expected_size, size);
-
-    free(list);
-    return good;
-}
-
-static void expect_refused(struct bytes d, struct bytes s, uint32_t item, uint32_t number, uint32_t place,
-                           const char *name)
-{
-    expect(state_gives(d, s, item, number, place, 0, 0, 0), "state refused", name);
-    expect(lend_gives(d, s, item, number, place, 0, 0), "lend refused", name);
-    expect(whole_gives(d, s, item, number, place, 0, 0), "whole number refused", name);
-    expect(packed_gives(d, s, item, number, place, 0, 0, 0), "packed decimal refused", name);
-}
-
 /* ---- descriptors: number, place and items of the check */
 
 struct check_case {
@@ -88,11 +33,16 @@ static const struct check_case checks[] = {
     {"RLO without a group", S("01", "0003") "0371A1", 5, 12, 0},
     {"SDA id 0", "0C7000010000000000000003", 6, 0, 0},
     {"type without a rule", S("22", "0002"), 6, 0, 0},
+    {"whole number of no bytes", S("23", "0000"), 6, 0, 0},
     {"whole number of 3 bytes", S("23", "0003"), 6, 0, 0},
     {"packed decimal without digits", S("30", "0000"), 6, 0, 0},
     {"packed decimal of 19 digits", S("30", "1300"), 6, 0, 0},
     {"packed decimal of 3 digits, 4 of them a fraction", S("B0", "0304"), 6, 0, 0},
     {"packed decimal of mode 1", M("30", "01", "0300"), 6, 0, 0},
+    {"binary float of 16 bytes", S("47", "0010"), 6, 0, 0},
+    {"nullable binary float of 16 bytes", S("C8", "0010"), 6, 0, 0},
+    {"float of mode 1", M("40", "01", "0000"), 6, 0, 0},
+    {"float of bias indicator 2", "0C70B1480000000200000000", 6, 0, 0},
     {"extent 0", "0E70B10100000000000000010000", 6, 0, 0},
     {"id twice", S("01", "0003") S("01", "0004"), 7, 12, 0},
     {"reference to itself", "0671A1A10001", 8, 0, 0},
@@ -159,6 +109,10 @@ static const struct block_case blocks[] = {
      S("B0", "0402") "0C70B2300000000000000501" "0971A1B10002B20002",
      "00FFFFFF8012345CAAAAAA",
      {{0xB1, 4, 1}, {0xB1, 1, 1}, {0xB2, 3, 2}}},
+    {"floats with zero parameters",
+     "0E70B14000000000000000000003" "0C70B2C80000000000000000" "0971A1B10201B20002",
+     "4168000000000000" "C1A4000000000000" "003FC00000" "80",
+     {{0xB1, 8, 2}, {0xB2, 5, 1}, {0xB2, 1, 1}}},
 };
 
 static const struct block_case figures[] = {
@@ -279,6 +233,8 @@ static const struct refusal_case refusals[] = {
     {"bad digits, then a cut item", S("30", "0300") "0671A1B10002", "FFFF12", 13, 2},
     {"bad digits and one byte", S("30", "0300"), "FFFF00", 16, 2},
     {"null packed decimal and a body", S("B0", "0300"), "80123C", 16, 1},
+    {"hexadecimal float with zero parameters, cut", S("40", "0000") "0671A1B10002", "41680000000000004168", 13, 8},
+    {"binary float with zero parameters, and one byte", S("C7", "0000"), "000000C03F00", 16, 5},
 };
 
 static void test_refusals(void)

@@ -1,7 +1,7 @@
 /*
  * Tests of the C calls that tell of one item: its state, where its value lies, its whole number. What these calls refuse
- * alike is in calls.c, the reading of packed decimals in packed.c. The last line printed is "N passed, M failed", and the
- * exit status is 0 if none failed.
+ * alike is in calls.c, the reading of packed decimals in packed.c, every length of floats in floats.c. The last line printed
+ * is "N passed, M failed", and the exit status is 0 if none failed.
  */
 #include "support.h"
 
@@ -92,6 +92,12 @@ static const struct item_case numbers[] = {
     "0671A2A10002"
 #define ROWS "0000094C65656B20736F7570" "000091" "000001C2" "80" "80" "0000017C"
 
+/* Two rows of floats with zero parameters: a hexadecimal one of 8 bytes, a nullable and a plain binary one of 4. */
+#define FLOATS                                                                                                         \
+    "0C70B1400000000000000000" "0C70B2C70000000000000000" "0C70B3480000000000000000" "0C71A1B10001B20001B30001"        \
+    "0671A2A10002"
+#define FLOAT_ROWS "4168000000000000" "000000C03F" "41C40000" "C1A4000000000000" "80" "BFC00000"
+
 static const struct item_case rows[] = {
     {"a dish", MENU, ROWS, 0, 0, 0x82, 3, 9},
     {"its calories", MENU, ROWS, 1, 0, 0xA3, 13, 2},
@@ -99,6 +105,12 @@ static const struct item_case rows[] = {
     {"a null dish", MENU, ROWS, 3, 1, 0x82, 20, 0},
     {"null calories", MENU, ROWS, 4, 1, 0xA3, 21, 0},
     {"grams behind nulls", MENU, ROWS, 5, 0, 0x23, 21, 4},
+    {"a hexadecimal float", FLOATS, FLOAT_ROWS, 0, 0, 0x40, 0, 8},
+    {"a nullable float", FLOATS, FLOAT_ROWS, 1, 0, 0xC7, 9, 4},
+    {"a binary float", FLOATS, FLOAT_ROWS, 2, 0, 0x48, 13, 4},
+    {"a negative hexadecimal float", FLOATS, FLOAT_ROWS, 3, 0, 0x40, 17, 8},
+    {"a null float", FLOATS, FLOAT_ROWS, 4, 1, 0xC7, 26, 0},
+    {"a binary float behind a null", FLOATS, FLOAT_ROWS, 5, 0, 0x48, 26, 4},
     {"reserved space before", M("02", "00", "0003") "0671A1B10002", "00014100000002424300", 1, 0, 0x02, 7, 2},
     {"no bytes, at the end", M("02", "01", "0003") "0671A1B10002", "0001410000", 1, 0, 0x02, 5, 0},
 };

@@ -23,6 +23,9 @@
 #define OLD 0xA5A5A5A5u
 #define OLD_VALUE INT64_C(-0x5A5A5A5A5A5A5A5B)
 
+/* Entries behind the list that a call is not told of. */
+#define GUARD 64
+
 struct bytes {
     uint8_t *at;
     size_t size;
@@ -88,6 +91,48 @@ static inline bool check_gives(struct bytes d, uint32_t number, uint32_t place, 
     return got == number && got_place == place && got_items == items;
 }
 
+static inline uint32_t *old_list(size_t size)
+{
+    uint32_t *list = room((size + GUARD) * sizeof *list);
+
+    for (size_t i = 0; i < size + GUARD; i++)
+        list[i] = OLD;
+    return list;
+}
+
+static inline bool still_old(const uint32_t *list, size_t from, size_t size)
+{
+    for (size_t i = from; i < size + GUARD; i++)
+        if (list[i] != OLD)
+            return false;
+    return true;
+}
+
+static inline bool list_refuses(struct bytes d, struct bytes s, size_t list_size, uint32_t number, uint32_t place)
+{
+    uint32_t got_place = OLD;
+    uint32_t *list = old_list(list_size);
+    uint32_t got = fdoca_list(d.at, d.size, s.at, s.size, list, list_size, &got_place);
+    bool good = got == number && got_place == place && still_old(list, 0, list_size);
+
+    free(list);
+    return good;
+}
+
+/* The list of `size` entries holds `expected` of them, and its old contents beyond. */
+static inline bool list_gives(struct bytes d, struct bytes s, size_t size, const uint32_t *expected,
+                              size_t expected_size)
+{
+    uint32_t got_place = OLD;
+    uint32_t *list = old_list(size);
+    uint32_t got = fdoca_list(d.at, d.size, s.at, s.size, list, size, &got_place);
+    bool good = got == 0 && got_place == 0 && memcmp(list, expected, expected_size * sizeof *list) == 0 &&
+                still_old(list, expected_size, size);
+
+    free(list);
+    return good;
+}
+
 static inline bool state_gives(struct bytes d, struct bytes s, uint32_t item, uint32_t number, uint32_t place,
                                uint32_t is_null, uint32_t type_code, uint32_t value)
 {
@@ -125,6 +170,16 @@ static inline bool packed_gives(struct bytes d, struct bytes s, uint32_t item, u
 
     return got == number && got_place == place && got_null == is_null && got_value == value &&
            got_fraction == fraction_digits;
+}
+
+/* What the calls for one item refuse alike. */
+static inline void expect_refused(struct bytes d, struct bytes s, uint32_t item, uint32_t number, uint32_t place,
+                                  const char *name)
+{
+    expect(state_gives(d, s, item, number, place, 0, 0, 0), "state refused", name);
+    expect(lend_gives(d, s, item, number, place, 0, 0), "lend refused", name);
+    expect(whole_gives(d, s, item, number, place, 0, 0), "whole number refused", name);
+    expect(packed_gives(d, s, item, number, place, 0, 0, 0), "packed decimal refused", name);
 }
 
 #endif

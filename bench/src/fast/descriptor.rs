@@ -17,6 +17,10 @@ const MISSING_REFERENCE: u32 = 8;
 const NOT_CARRIED: u32 = 9;
 const TOO_MANY_ITEMS: u32 = 10;
 
+/// The lengths of floats whose field length is none of 4, 8 and 16.
+const HEXADECIMAL_DEFAULT: u16 = 8;
+const BINARY_DEFAULT: u16 = 4;
+
 const NONE: u8 = 0;
 
 /// A descriptor, parsed.
@@ -291,9 +295,12 @@ fn field(id: u8, type_code: u8, parameters: &[u8; 8]) -> Option<Field> {
     let [0, 0, bias_high, bias_low, 0, mode, high, low] = *parameters else {
         return None;
     };
-    let length = match type_code & 0x7F {
-        0x30 => packed_length(high, low)?,
-        _ => u16::from_be_bytes([high, low]),
+    let length = match (type_code & 0x7F, u16::from_be_bytes([high, low])) {
+        (0x30, _) => packed_length(high, low)?,
+        (_, given @ (4 | 8 | 16)) => given,
+        (0x40, _) => HEXADECIMAL_DEFAULT,
+        (0x47 | 0x48, _) => BINARY_DEFAULT,
+        (_, given) => given,
     };
     let highest_bias = u16::from(matches!(type_code & 0x7F, 0x47 | 0x48));
     if id == 0 || u16::from_be_bytes([bias_high, bias_low]) > highest_bias {
@@ -305,8 +312,7 @@ fn field(id: u8, type_code: u8, parameters: &[u8; 8]) -> Option<Field> {
         (0x03, 0..=32_767, 0 | 1) => Layout::Terminated,
         (0x07, 0..=255, 0 | 1) => Layout::Short,
         (0x23 | 0x24, 2 | 4 | 8, 0) => Layout::Fixed,
-        (0x30, _, 0) => Layout::Fixed,
-        (0x40, 4 | 8 | 16, 0) => Layout::Fixed,
+        (0x30 | 0x40, _, 0) => Layout::Fixed,
         (0x47 | 0x48, 4 | 8, 0) => Layout::Fixed,
         _ => return None,
     };

@@ -1,6 +1,7 @@
 //! The groups of cases, the same ones in every run.
 
 mod descriptor_bytes;
+mod floats;
 mod forms;
 mod limits;
 mod packed;
@@ -14,7 +15,7 @@ pub struct Group {
     pub run: fn(&mut Comparison),
 }
 
-pub const GROUPS: [Group; 11] = [
+pub const GROUPS: [Group; 13] = [
     Group {
         name: "valid blocks of every form",
         run: forms::every_form,
@@ -54,6 +55,14 @@ pub const GROUPS: [Group; 11] = [
     Group {
         name: "every half-byte of packed decimals",
         run: packed::every_half_byte,
+    },
+    Group {
+        name: "every field length of floats",
+        run: floats::every_field_length,
+    },
+    Group {
+        name: "floats with data of every size",
+        run: floats::every_size_of_data,
     },
     Group {
         name: "random bytes",

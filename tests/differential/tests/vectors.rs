@@ -8,6 +8,8 @@ mod edges;
 mod environment;
 #[path = "../../reader/tests/vectors/examples.rs"]
 mod examples;
+#[path = "../../reader/tests/vectors/floats.rs"]
+mod floats;
 #[path = "../../reader/tests/vectors/limits.rs"]
 mod limits;
 #[path = "../../reader/tests/vectors/packed.rs"]

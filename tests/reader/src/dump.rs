@@ -56,6 +56,20 @@ mod tests {
     }
 
     #[test]
+    fn floats_of_zero_parameters() {
+        let descriptor = [0x0E, 0x70, 0xB1, 0xC0, 0, 0, 0, 0, 0, 0, 0, 0, 0, 2];
+        let file = [
+            &[0, 0, 0, 14, 0, 0, 0, 10],
+            &descriptor[..],
+            &[0; 9],
+            &[0x80],
+        ]
+        .concat();
+        let text = "items 2 bytes 10\n0 0 192 8\n1 9 192 null\n";
+        assert_eq!(dump(&file), text);
+    }
+
+    #[test]
     fn files_that_do_not_fit_their_sizes() {
         let rows: [(&[u8], &str); 6] = [
             (&[], "refused 19 0\n"),

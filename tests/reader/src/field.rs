@@ -79,6 +79,20 @@ impl Rule {
     }
 }
 
+/// The parameters that hold for a plain type: for a field length other than 4, 8 or 16
+/// a float has its type's default.
+fn parameters_that_hold(plain: u8, mut parameters: [u8; 8]) -> [u8; 8] {
+    let default = match plain {
+        0x40 => 8,
+        0x47 | 0x48 => 4,
+        _ => return parameters,
+    };
+    if !matches!(parameters[6..], [0, 4 | 8 | 16]) {
+        parameters[6..].copy_from_slice(&[0, default]);
+    }
+    parameters
+}
+
 /// A field of the unfolding: an SDA's id, type code and the parameters that hold for it.
 #[derive(Clone, Copy, Debug, PartialEq, Eq)]
 pub struct Field {
@@ -90,10 +104,11 @@ pub struct Field {
 
 impl Field {
     /// The field of an SDA, unless its id is 0, its type has no rule or the
-    /// rule does not allow its parameters.
+    /// rule does not allow the parameters that hold for it.
     pub(crate) fn new(id: u8, type_code: u8, parameters: [u8; 8]) -> Option<Field> {
         let plain = type_code & !NULLABLE;
         let rule = RULES.iter().find(|rule| rule.type_code == plain)?;
+        let parameters = parameters_that_hold(plain, parameters);
         (id != 0 && rule.allows(&parameters)).then_some(Field {
             id,
             type_code,
@@ -119,7 +134,7 @@ impl Field {
         self.type_code & NULLABLE != 0
     }
 
-    /// The eight type parameters as the SDA holds them.
+    /// The eight type parameters that hold, which are the SDA's but for a float's default.
     pub fn parameters(&self) -> [u8; 8] {
         self.parameters
     }
@@ -129,7 +144,8 @@ impl Field {
         self.parameters[5]
     }
 
-    /// The field length F; of a packed decimal, the bytes that its digits and sign take.
+    /// The field length F that holds; of a packed decimal, the bytes that its digits and
+    /// sign take.
     pub fn field_length(&self) -> usize {
         match self.form {
             Form::Packed => self.digits() / 2 + 1,
@@ -149,5 +165,32 @@ impl Field {
 
     pub(crate) fn form(&self) -> Form {
         self.form
+    }
+}
+
+#[cfg(test)]
+mod tests {
+    use super::*;
+
+    #[test]
+    fn a_field_carries_the_parameters_that_hold() {
+        let rows: [(u8, u64, Option<u64>); 11] = [
+            (0x40, 0, Some(8)),
+            (0xC0, 0, Some(8)),
+            (0x47, 0, Some(4)),
+            (0xC8, 0, Some(4)),
+            (0x48, 0x0000_0001_0000_FFFF, Some(0x0000_0001_0000_0004)),
+            (0x40, 16, Some(16)),
+            (0x47, 8, Some(8)),
+            (0x47, 16, None),
+            (0x40, 0x0000_0000_0001_0000, None),
+            (0x23, 0, None),
+            (0x01, 0, Some(0)),
+        ];
+        for (type_code, parameters, held) in rows {
+            let field = Field::new(1, type_code, parameters.to_be_bytes());
+            let carried = field.map(|field| u64::from_be_bytes(field.parameters()));
+            assert_eq!(carried, held, "X'{type_code:X}' {parameters:016X}");
+        }
     }
 }

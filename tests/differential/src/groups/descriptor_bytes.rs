@@ -17,13 +17,14 @@ pub fn every_change(comparison: &mut Comparison) {
     }
 }
 
-fn blocks() -> [(Vec<u8>, Vec<u8>); 5] {
+fn blocks() -> [(Vec<u8>, Vec<u8>); 6] {
     [
         nullable_strings(),
         overrides(),
         mixed_row(),
         nested_rows(),
         packed_decimals(),
+        floats(),
     ]
 }
 
@@ -94,5 +95,18 @@ fn packed_decimals() -> (Vec<u8>, Vec<u8>) {
         ],
         &[0x80],
     ];
+    (descriptor.concat(), data.concat())
+}
+
+/// Field lengths that give way to the type's default: of zero parameters, of a null, and
+/// with the highest bit.
+fn floats() -> (Vec<u8>, Vec<u8>) {
+    let descriptor = [
+        sda(1, 0x40, 0, 0, &[2]),
+        sda(2, 0xC7, 0, 3, &[]),
+        sda(3, 0x48, 0, 0x8000, &[]),
+        row(4, &[[1, 0, 1], [2, 0, 2], [3, 0, 1]]),
+    ];
+    let data = [&[0x41; 16][..], &[0, 1, 2, 3, 4], &[0x80], &[0x3F; 4]];
     (descriptor.concat(), data.concat())
 }

@@ -20,6 +20,8 @@ enum Form {
     },
     /// The digits of a packed decimal.
     Digits(u8),
+    /// The type code of a float whose field length gives way to the type's default.
+    Default(u8),
     Extents(usize),
     ElementsTaken,
     Repetition,
@@ -71,6 +73,7 @@ fn all_forms() -> BTreeSet<Form> {
         Form::Support,
     ]);
     forms.extend((1..=18).map(Form::Digits));
+    forms.extend([0x40, 0x47, 0x48, 0xC0, 0xC7, 0xC8].map(Form::Default));
     for (plain, modes, lengths) in TYPES {
         for type_code in [plain, plain + 0x80] {
             for &mode in modes {
@@ -98,7 +101,10 @@ fn forms(descriptor: &[u8]) -> Vec<Form> {
         .collect();
     for triplet in triplets {
         match triplet[1] {
-            SDA => forms.push(Form::Extents((triplet.len() - 12) / 2)),
+            SDA => {
+                forms.push(Form::Extents((triplet.len() - 12) / 2));
+                forms.extend(default_form(triplet, &fields));
+            }
             ISD => forms.push(Form::Support),
             CPT => forms.push(Form::Continuation),
             _ => {}
@@ -117,6 +123,13 @@ fn field_form(field: &Field) -> Form {
         mode: field.mode(),
         has_length: field.field_length() > 0,
     }
+}
+
+/// The form of an SDA with a field for which other parameters hold.
+fn default_form(sda: &[u8], fields: &[Field]) -> Option<Form> {
+    let is_changed = |field: &&Field| field.id() == sda[2] && field.parameters() != sda[4..12];
+    let field = fields.iter().find(is_changed)?;
+    Some(Form::Default(field.type_code()))
 }
 
 fn group_forms(group: &[u8], rows: &[u8]) -> impl Iterator<Item = Form> {

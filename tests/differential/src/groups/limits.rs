@@ -91,6 +91,8 @@ pub fn counts(comparison: &mut Comparison) {
             (0xA4, 2),
             (0x87, 1),
             (0x30, 0x0100),
+            (0x40, 0),
+            (0xC8, 0),
         ] {
             let sda = sda(1, type_code, 0, field_length, extents);
             compare_around(comparison, &sda);

@@ -24,12 +24,12 @@ pub(super) fn damaged(random: &mut Random, mut triplets: Vec<Vec<u8>>) -> Vec<u8
 }
 
 fn damage(random: &mut Random, triplets: &mut Vec<Vec<u8>>) {
-    match random.below(13) {
+    match random.below(15) {
         0 | 1 => header(random, triplets),
-        2 | 3 => parameters(random, triplets),
-        4 => extents(random, triplets),
-        5..=8 => group(random, triplets),
-        9 => stray(random, triplets),
+        2..=5 => parameters(random, triplets),
+        6 => extents(random, triplets),
+        7..=10 => group(random, triplets),
+        11 => stray(random, triplets),
         _ => order(random, triplets),
     }
 }
@@ -49,8 +49,17 @@ fn header(random: &mut Random, triplets: &mut [Vec<u8>]) {
     }
 }
 
+/// Type codes without a rule and with one, which the other parameters may not fit.
+const TYPE_CODES: [u8; 11] = [
+    0x00, 0x80, 0x10, 0x22, 0x33, 0x82, 0x03, 0xB0, 0xC0, 0x47, 0xC8,
+];
+
 /// Field lengths, in the ranges of the types and beside them.
 const LENGTHS: [u16; 10] = [1, 2, 3, 8, 16, 255, 256, 0x7FFF, 0x8000, 0xFFFF];
+
+/// Field lengths of a float: its own, those that give way to its default, and often 16,
+/// which only one of the types has.
+const FLOAT_LENGTHS: [u16; 10] = [0, 5, 8, 16, 16, 16, 17, 0x0110, 0x8000, 0xFFFF];
 
 /// Digits and fraction digits of a packed decimal, in their ranges and beside them.
 const DIGITS: [u16; 10] = [
@@ -64,10 +73,11 @@ fn parameters(random: &mut Random, triplets: &mut [Vec<u8>]) {
     };
     match random.below(4) {
         0 => triplet[3] = random.byte(),
-        1 => triplet[3] = random.pick(&[0x00, 0x80, 0x10, 0x22, 0x33, 0x82, 0x03, 0xB0, 0xC0]),
+        1 => triplet[3] = random.pick(&TYPE_CODES),
         2 => {
             let lengths = match triplet[3] & !NULLABLE {
                 0x30 => DIGITS,
+                0x40 | 0x47 | 0x48 => FLOAT_LENGTHS,
                 _ => LENGTHS,
             };
             triplet[10..12].copy_from_slice(&random.pick(&lengths).to_be_bytes());

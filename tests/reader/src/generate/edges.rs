@@ -1,6 +1,7 @@
 //! Fixed cases and files: what the papers name by a number, at that number and
 //! beside it.
 
+mod floats;
 mod packed;
 
 use super::fitting;
@@ -26,6 +27,7 @@ pub fn edges() -> Vec<Case> {
     cases.extend(blocks());
     cases.extend(asked_of_every_type(&mut random));
     cases.extend(packed::blocks());
+    cases.extend(floats::blocks());
     cases
 }
 
@@ -72,6 +74,7 @@ fn descriptors() -> Vec<Vec<u8>> {
         groups(),
         extents(),
         packed::descriptors(),
+        floats::descriptors(),
     ]
     .concat()
 }
@@ -97,21 +100,34 @@ fn field_lengths() -> Vec<Vec<u8>> {
         0, 1, 2, 3, 4, 5, 6, 7, 8, 9, 10, 12, 15, 16, 17, 254, 255, 256, 32_766, 32_767, 32_768,
         65_535,
     ];
-    plain_types()
-        .flat_map(|code| lengths.map(|length| sda_of(1, code, plain_parameters(0, length), &[])))
+    sdas(plain_types(), &lengths)
+}
+
+/// An SDA of each type code with each field length.
+fn sdas(codes: impl IntoIterator<Item = u8>, lengths: &[u16]) -> Vec<Vec<u8>> {
+    let sda = |code, length: &u16| sda_of(1, code, plain_parameters(0, *length), &[]);
+    codes
+        .into_iter()
+        .flat_map(|code| lengths.iter().map(move |length| sda(code, length)))
         .collect()
 }
 
-/// Bytes 0 to 5 of the type parameters, each at 1 and at 2.
+/// The other type parameters of a field of four bytes.
 fn parameters() -> Vec<Vec<u8>> {
-    let changed = |code: u8, byte: usize, value: u8| {
-        let mut parameters = four_bytes(code);
+    plain_types()
+        .flat_map(|code| changed_parameters(code, four_bytes(code)))
+        .collect()
+}
+
+/// SDAs with bytes 0 to 5 of the type parameters, each at 1 and at 2.
+fn changed_parameters(code: u8, parameters: [u8; 8]) -> Vec<Vec<u8>> {
+    let changed = |byte: usize, value: u8| {
+        let mut parameters = parameters;
         parameters[byte] = value;
         sda_of(1, code, parameters, &[])
     };
-    plain_types()
-        .flat_map(|code| (0..6).map(move |byte| (code, byte)))
-        .flat_map(|(code, byte)| [1, 2].map(|value| changed(code, byte, value)))
+    (0..6)
+        .flat_map(|byte| [1, 2].map(|value| changed(byte, value)))
         .collect()
 }
 
@@ -345,6 +361,24 @@ fn asked_of_every_type(random: &mut Random) -> Vec<Case> {
     cases
 }
 
+/// Each item of a block asked, and two past the last; with a list too short, and with data
+/// a byte short or a byte long.
+fn asked_around(descriptor: &[u8], data: &[u8], count: u32) -> Vec<Case> {
+    let needed = 2 + 2 * count as usize;
+    let shorter = &data[..data.len() - 1];
+    let longer = [data, &[0]].concat();
+    (0..count + 2)
+        .flat_map(|item| {
+            [
+                case(descriptor, data, needed, item),
+                case(descriptor, data, needed - 1, item),
+                case(descriptor, shorter, needed, item),
+                case(descriptor, &longer, needed, item),
+            ]
+        })
+        .collect()
+}
+
 /// A field of one byte, then that of an SDA of id 2.
 fn behind_a_byte(sda: Vec<u8>) -> Vec<u8> {
     let row = with_groups(RLO, 3, &[[1, 0, 1], [2, 0, 1]]);
@@ -368,6 +402,7 @@ pub fn files(seed: u64, count: usize) -> Vec<Vec<u8>> {
         &sda_of(1, 0x81, plain_parameters(0, 0), &[12]),
         &[0x80; 12],
     ));
+    files.extend(floats::files());
     // sizes that the file does not fit, or that are over their limits
     for length in 0..=9 {
         files.push(vec![0; length]);

@@ -18,8 +18,12 @@ pub(super) fn nothing(random: &mut Random) -> Vec<u8> {
 
 /// Counts above 60, around 4,096 and far over it; one byte an item or none.
 pub(super) fn large_count(random: &mut Random) -> (Vec<u8>, Vec<u8>) {
-    let (type_code, field_length, byte) =
-        random.pick(&[(0x01, 0, None), (0x81, 0, Some(0x80)), (0x01, 1, Some(7))]);
+    let (type_code, field_length, byte) = random.pick(&[
+        (0x01, 0, None),
+        (0x81, 0, Some(0x80)),
+        (0xC0, 0, Some(0x80)),
+        (0x01, 1, Some(7)),
+    ]);
     let descriptor = large_descriptor(random, type_code, plain_parameters(0, field_length));
     let count = unfold(&descriptor).map_or(16, |fields| fields.len());
     let surplus = random.pick(&[0, 0, 0, 1, 16]);

@@ -21,7 +21,7 @@ pub(super) fn triplets(random: &mut Random, items: usize) -> Vec<Vec<u8>> {
     draft.triplets
 }
 
-/// An SDA of any carried type, with parameters that its rule allows.
+/// An SDA of any carried type, with parameters that are accepted.
 pub(super) fn sda(random: &mut Random, id: u8, extents: &[u16]) -> Vec<u8> {
     let plain = random.pick(&TYPES);
     let type_code = plain + random.pick(&[0, 0x80]);
@@ -49,8 +49,8 @@ fn parameters(random: &mut Random, plain: u8) -> [u8; 8] {
         0x01 => (0, random.below(if is_large { 24 } else { 6 })),
         0x02 | 0x03 | 0x07 => (random.below(2), random.below(if is_large { 24 } else { 6 })),
         0x30 => (0, digits(random)),
-        0x40 => (0, random.pick(&[4, 8, 16])),
-        0x47 | 0x48 => (0, random.pick(&[4, 8])),
+        0x40 => (0, float_length(random, &[4, 8, 16])),
+        0x47 | 0x48 => (0, float_length(random, &[4, 8])),
         _ => (0, random.pick(&[2, 4, 8])),
     };
     let mut parameters = plain_parameters(mode as u8, field_length as u16);
@@ -71,6 +71,16 @@ fn digits(random: &mut Random) -> usize {
         _ => random.between(0, digits),
     };
     digits << 8 | fraction_digits
+}
+
+/// One of the lengths that a float can have, or one that gives way to the type's default.
+fn float_length(random: &mut Random, lengths: &[usize]) -> usize {
+    match random.below(6) {
+        0 => 0,
+        1 => random.pick(&[1, 2, 3, 5, 7, 9, 15, 17, 0x0104, 0x0800, 0x8010, 0xFFFF]),
+        2 => random.between(17, 0xFFFF),
+        _ => random.pick(lengths),
+    }
 }
 
 pub(super) fn isd(random: &mut Random) -> Vec<u8> {
@@ -202,6 +212,29 @@ impl Draft<'_> {
             };
             if self.described.iter().all(|described| described.id != id) {
                 return id;
+            }
+        }
+    }
+}
+
+#[cfg(test)]
+mod tests {
+    use super::*;
+    use crate::unfold;
+
+    #[test]
+    fn floats_have_their_own_lengths_and_others() {
+        let mut random = Random::new(9);
+        let sdas: Vec<Vec<u8>> = (0..2_000).map(|_| sda(&mut random, 1, &[])).collect();
+        for type_code in [0x40, 0x47, 0x48, 0xC0, 0xC7, 0xC8] {
+            for gives_way in [false, true] {
+                let is_meant = |sda: &&Vec<u8>| {
+                    let field = unfold(sda).expect("an accepted SDA")[0];
+                    let is_default = field.parameters() != sda[4..12];
+                    sda[3] == type_code && is_default == gives_way
+                };
+                let times = sdas.iter().filter(is_meant).count();
+                assert!(times >= 10, "X'{type_code:X}': {times}");
             }
         }
     }

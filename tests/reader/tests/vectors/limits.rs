@@ -179,7 +179,7 @@ const DIGITS: [RangeInclusive<u16>; 18] = [
     0x1200..=0x1212,
 ];
 
-/// Plain type, highest mode, highest bias indicator, allowed field lengths.
+/// Plain type, highest mode, highest bias indicator, field lengths that are not refused.
 const RULES: &[(u8, u8, u16, &[RangeInclusive<u16>])] = &[
     (0x01, 0, 0, &[0..=32_767]),
     (0x02, 1, 0, &[0..=32_767]),
@@ -188,9 +188,9 @@ const RULES: &[(u8, u8, u16, &[RangeInclusive<u16>])] = &[
     (0x23, 0, 0, &[2..=2, 4..=4, 8..=8]),
     (0x24, 0, 0, &[2..=2, 4..=4, 8..=8]),
     (0x30, 0, 0, &DIGITS),
-    (0x40, 0, 0, &[4..=4, 8..=8, 16..=16]),
-    (0x47, 0, 1, &[4..=4, 8..=8]),
-    (0x48, 0, 1, &[4..=4, 8..=8]),
+    (0x40, 0, 0, &[0..=65_535]),
+    (0x47, 0, 1, &[0..=15, 17..=65_535]),
+    (0x48, 0, 1, &[0..=15, 17..=65_535]),
 ];
 
 fn is_allowed(type_code: u8, parameters: [u8; 8]) -> bool {
@@ -233,7 +233,7 @@ fn every_type_code_with_every_parameter_byte() {
     for type_code in 0..=255 {
         for offset in 0..8 {
             for value in 0..=255 {
-                for (high, low) in [(0, 4), (7, 2)] {
+                for (high, low) in [(0, 0), (0, 4), (7, 2)] {
                     let mut parameters = [0, 0, 0, 0, 0, 0, high, low];
                     parameters[offset] = value;
                     assert_parameters(type_code, parameters);
@@ -244,8 +244,8 @@ fn every_type_code_with_every_parameter_byte() {
 }
 
 #[test]
-fn every_number_of_digits_and_fraction_digits() {
-    for type_code in [0x30, 0xB0] {
+fn every_length_of_packed_decimals_and_floats() {
+    for type_code in [0x30, 0x40, 0x47, 0x48, 0xB0, 0xC0, 0xC7, 0xC8] {
         for mode in [0, 1] {
             for [high, low] in (0..=u16::MAX).map(u16::to_be_bytes) {
                 assert_parameters(type_code, [0, 0, 0, 0, 0, mode, high, low]);

@@ -3,6 +3,7 @@
 mod edges;
 mod environment;
 mod examples;
+mod floats;
 mod generator;
 mod limits;
 mod packed;

@@ -108,8 +108,8 @@ pub fn every_sda() -> Vec<Vec<u8>> {
         (&[0x07], 1, &[0, 1, 255]),
         (&[0x23, 0x24], 0, &[2, 4, 8]),
         (&[0x30], 0, &[0x0100, 0x0101, 0x1200, 0x1212]),
-        (&[0x40], 0, &[4, 8, 16]),
-        (&[0x47, 0x48], 0, &[4, 8]),
+        (&[0x40], 0, &[0, 4, 8, 16, 65_535]),
+        (&[0x47, 0x48], 0, &[0, 4, 8, 65_535]),
     ];
     let mut sdas = Vec::new();
     for (type_codes, highest_mode, lengths) in types {
@@ -148,14 +148,19 @@ pub fn assert_blocks<'t>(rows: impl IntoIterator<Item = BlockRow<'t>>) {
 /// Asserts blocks of one plain item with the item made nullable, behind an indicator.
 pub fn assert_behind_indicator<'t>(rows: impl IntoIterator<Item = BlockRow<'t>>) {
     for [name, descriptor, data, answer] in rows {
-        let (mut descriptor, data) = (hex(descriptor), hex(data));
-        assert!(!is_nullable(&descriptor), "{name}");
-        descriptor[3] |= 0x80;
-        let answer = Answer::parse(answer).after_indicator();
-        for indicator in [0x00, 0x01, 0x7F] {
-            let data = [&[indicator], &data[..]].concat();
-            assert_block(name, &descriptor, &data, &answer);
-        }
+        assert_nullable(name, &hex(descriptor), &hex(data), Answer::parse(answer));
+    }
+}
+
+/// Asserts a block of one plain item with the item made nullable, behind an indicator.
+pub fn assert_nullable(name: &str, plain: &[u8], data: &[u8], answer: Answer) {
+    assert!(!is_nullable(plain), "{name}");
+    let mut descriptor = plain.to_vec();
+    descriptor[3] |= 0x80;
+    let answer = answer.after_indicator();
+    for indicator in [0x00, 0x01, 0x7F] {
+        let data = [&[indicator], data].concat();
+        assert_block(name, &descriptor, &data, &answer);
     }
 }
 

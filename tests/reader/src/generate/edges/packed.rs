@@ -1,7 +1,7 @@
 //! Packed decimals: their parameters, every half-byte of a value, nulls, lengths, and
 //! other items beside them.
 
-use super::{behind_a_byte, case};
+use super::{asked_around, behind_a_byte, case};
 use crate::descriptor::RLO;
 use crate::generate::fitting::{bytes_of, half_bytes};
 use crate::generate::structured::{plain_parameters, sda_of, with_groups};
@@ -158,8 +158,7 @@ fn lengths() -> Vec<Case> {
     cases
 }
 
-/// Four items of three SDAs, of which the second has a bad digit: each of them asked, and
-/// two past the last; with a list too short, and with data a byte short or a byte long.
+/// Four items of three SDAs, of which the second has a bad digit.
 fn neighbours() -> Vec<Case> {
     let descriptor = [
         sda(1, 0x30, 3, 1),
@@ -168,18 +167,6 @@ fn neighbours() -> Vec<Case> {
         with_groups(RLO, 4, &[[1, 0, 2], [2, 0, 1], [3, 0, 1]]),
     ]
     .concat();
-    let data = [
-        0x12, 0x3F, 0x4A, 0x6C, 0x00, 0x01, 0x23, 0x4B, 0xFF, 0xFE, 0x00,
-    ];
-    let fitting = &data[..10];
-    (0..=5)
-        .flat_map(|item| {
-            [
-                case(&descriptor, fitting, 10, item),
-                case(&descriptor, fitting, 9, item),
-                case(&descriptor, &data[..9], 10, item),
-                case(&descriptor, &data, 10, item),
-            ]
-        })
-        .collect()
+    let data = [0x12, 0x3F, 0x4A, 0x6C, 0x00, 0x01, 0x23, 0x4B, 0xFF, 0xFE];
+    asked_around(&descriptor, &data, 4)
 }

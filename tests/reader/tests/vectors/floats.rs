@@ -1,0 +1,190 @@
+//! Floats: the field lengths that give way to the type's default, and the items that
+//! they then have.
+
+use reader::*;
+
+use crate::support::{
+    assert_block, assert_check, assert_nullable, hex, refused, rows, sda, Answer,
+};
+
+const DESCRIPTORS: &str = include_str!("float_descriptors.txt");
+const ROWS: &str = include_str!("float_rows.txt");
+
+#[test]
+fn parameters_are_judged_as_listed() {
+    for [name, descriptor, answer] in rows(DESCRIPTORS) {
+        let mut descriptor = hex(descriptor);
+        assert_check(name, &descriptor, answer);
+        descriptor[3] |= 0x80;
+        assert_check(name, &descriptor, answer);
+    }
+}
+
+/// Plain type, field lengths, answer for the one item.
+const LENGTHS: &str = "
+40 | 0004                                                             | length 4
+40 | 0000 0001 0003 0005 0007 0008 0009 000F 0011 0020 7FFF 8000 FFFF | length 8
+40 | 0010                                                             | length 16
+47 | 0000 0001 0003 0004 0005 0007 0009 000F 0011 0020 7FFF 8000 FFFF | length 4
+47 | 0008                                                             | length 8
+47 | 0010                                                             | refused 6 0
+48 | 0000 0001 0003 0004 0005 0007 0009 000F 0011 0020 7FFF 8000 FFFF | length 4
+48 | 0008                                                             | length 8
+48 | 0010                                                             | refused 6 0
+";
+
+/// The SDAs of the listed lengths, each with its answer.
+fn listed() -> Vec<(Vec<u8>, Answer)> {
+    let mut listed = Vec::new();
+    for [plain, lengths, answer] in rows(LENGTHS) {
+        for length in lengths.split_whitespace() {
+            let sda = hex(&format!("0C70B1{plain} 000000000000{length}"));
+            listed.push((sda, Answer::parse(answer)));
+        }
+    }
+    listed
+}
+
+#[test]
+fn items_have_the_listed_lengths() {
+    let data: Vec<u8> = (1..=17).collect();
+    for (sda, answer) in listed() {
+        let Answer::Length(length) = answer else {
+            for size in [0, 4, 8, 16] {
+                assert_plain_and_nullable(&sda, &data[..size], &answer);
+            }
+            continue;
+        };
+        let cut = Answer::parse("refused 13 0");
+        let value = Answer::Value(data[..length].to_vec());
+        let surplus = Answer::parse(&format!("refused 16 {length}"));
+        assert_plain_and_nullable(&sda, &data[..length - 1], &cut);
+        assert_plain_and_nullable(&sda, &data[..length], &value);
+        assert_plain_and_nullable(&sda, &data[..length + 1], &surplus);
+    }
+}
+
+#[test]
+fn nulls_have_none_of_the_listed_lengths() {
+    for (mut sda, answer) in listed() {
+        let null = match answer {
+            Answer::Length(_) => Answer::Null,
+            refused => refused,
+        };
+        sda[3] |= 0x80;
+        assert_block(&format!("{sda:02X?}"), &sda, &[0x80], &null);
+    }
+}
+
+#[test]
+fn every_other_length_gives_way() {
+    for (plain, default) in [(0x40, 8), (0x47, 4), (0x48, 4)] {
+        let data = vec![0x42; default];
+        let value = Answer::Value(data.clone());
+        for length in (0..=u16::MAX).filter(|length| !matches!(length, 4 | 8 | 16)) {
+            assert_plain_and_nullable(&sda(0xB1, plain, 0, length), &data, &value);
+        }
+    }
+}
+
+fn assert_plain_and_nullable(sda: &[u8], data: &[u8], answer: &Answer) {
+    let name = format!("{sda:02X?}");
+    assert_block(&name, sda, data, answer);
+    assert_nullable(&name, sda, data, answer.clone());
+}
+
+/// An item of a listed row.
+struct Item {
+    id: u8,
+    type_code: u8,
+    start: usize,
+    bytes: Vec<u8>,
+}
+
+impl Item {
+    /// The value behind any indicator, none for a null.
+    fn value(&self) -> Option<&[u8]> {
+        match self.type_code {
+            0x80.. if self.bytes[0] >= 0x80 => None,
+            0x80.. => Some(&self.bytes[1..]),
+            _ => Some(&self.bytes),
+        }
+    }
+}
+
+/// The items of a listed row, one behind the other.
+fn items(text: &str) -> Vec<Item> {
+    let mut start = 0;
+    let item = |text| {
+        let bytes = hex(text);
+        let item = Item {
+            id: bytes[0],
+            type_code: bytes[1],
+            start,
+            bytes: bytes[2..].to_vec(),
+        };
+        start += item.bytes.len();
+        item
+    };
+    text.split(',').map(item).collect()
+}
+
+#[test]
+fn rows_are_cut_as_listed() {
+    for [name, descriptor, text] in rows(ROWS) {
+        let (descriptor, items) = (hex(descriptor), items(text));
+        let data: Vec<u8> = items.iter().flat_map(|item| item.bytes.clone()).collect();
+        assert_list(name, &descriptor, &data, &items);
+        for (number, item) in (0..).zip(&items) {
+            assert_value(name, &descriptor, &data, number, item);
+        }
+        let last = items[items.len() - 1].start;
+        let cut = Answer::parse(&format!("refused 13 {last}"));
+        let surplus = Answer::parse(&format!("refused 16 {}", data.len()));
+        assert_block(name, &descriptor, &data[..data.len() - 1], &cut);
+        assert_block(name, &descriptor, &[&data[..], &[0]].concat(), &surplus);
+    }
+}
+
+fn assert_list(name: &str, descriptor: &[u8], data: &[u8], items: &[Item]) {
+    let mut expected = vec![items.len() as u32, data.len() as u32];
+    expected.extend(items.iter().map(|item| item.start as u32));
+    expected.extend(items.iter().map(|item| u32::from(item.id)));
+    let mut entries = vec![0; expected.len()];
+    assert_eq!(list(descriptor, data, &mut entries), Ok(()), "{name}");
+    assert_eq!(entries, expected, "{name}");
+}
+
+/// Asserts the state and the part of an item that is no number.
+fn assert_value(name: &str, descriptor: &[u8], data: &[u8], number: u32, item: &Item) {
+    let value = item.value().unwrap_or_default();
+    let expected = State {
+        is_null: item.value().is_none(),
+        type_code: item.type_code,
+        value_length: value.len() as u32,
+    };
+    assert_eq!(state(descriptor, data, number), Ok(expected), "{name}");
+    assert_eq!(lend(descriptor, data, number), value, "{name}");
+    let start = item.start as u32;
+    let whole = whole_number(descriptor, data, number);
+    assert_eq!(whole, refused(WRONG_KIND, start), "{name}");
+    let decimal = packed(descriptor, data, number);
+    assert_eq!(decimal, refused(WRONG_KIND, start), "{name}");
+}
+
+/// 4,096 floats of 8 bytes are as long as a data block may be.
+#[test]
+fn the_longest_block_of_zero_parameters() {
+    let descriptor = hex("0E70B140 0000000000000000 1000");
+    let data = vec![0x41; MAX_DATA + 1];
+    let rows = [
+        (32_767, "refused 13 32760"),
+        (32_768, "length 8"),
+        (32_769, "refused 1 0"),
+    ];
+    for (length, answer) in rows {
+        assert_block(answer, &descriptor, &data[..length], &Answer::parse(answer));
+    }
+    let last = lend(&descriptor, &data[..MAX_DATA], 4095);
+    assert_eq!(last.as_ptr_range(), data[32_760..32_768].as_ptr_range());
+}
