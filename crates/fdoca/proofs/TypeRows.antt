@@ -280,7 +280,7 @@ by-means (R.Means.nullable k m) =
 
 module _ (T : FieldType) (a b : ℕ) where
   -- A size that 01's table allows holds as it is given,
-  pub size-kept : allows (ruleOf T .sizes) (given a b (ruleOf T)) ≡ true → held a b (ruleOf T) ≡ given a b (ruleOf T)
+  size-kept : allows (ruleOf T .sizes) (given a b (ruleOf T)) ≡ true → held a b (ruleOf T) ≡ given a b (ruleOf T)
   size-kept h = go (ruleOf T .default) refl (default-of T)
     where
       go : (o : Option ℕ) → ruleOf T .default ≡ o → Default T o → held a b (ruleOf T) ≡ given a b (ruleOf T)
