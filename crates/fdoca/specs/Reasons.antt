@@ -142,7 +142,7 @@ pub data Allowed : (code bias mode a b : ℕ) → Type 0 where
   float : {bias a b : ℕ} → OneOf (F a b) (4 ∷ 8 ∷ []) → bias ≤ 1 → Allowed 0x48 bias 0 a b
   nullable : {code bias mode a b : ℕ} → code < 0x80 → Allowed code bias mode a b → Allowed (code + 0x80) bias mode a b
 
--- Q-2: an F of the type means the default n. For X'40' an F other than 4, 8, 16 means 8; for X'47' and X'48' it means 4.
+-- Q-2: what an F that is replaced means. For X'40' an F other than 4, 8, 16 means 8; for X'47' and X'48' an F other than 4, 8 or 16 means 4.
 pub data Means : (code F n : ℕ) → Type 0 where
   hexadecimal-float : {F : ℕ} → (OneOf F (4 ∷ 8 ∷ 16 ∷ []) → ⊥) → Means 0x40 F 8
   reversed-float : {F : ℕ} → (OneOf F (4 ∷ 8 ∷ 16 ∷ []) → ⊥) → Means 0x47 F 4

@@ -70,10 +70,11 @@ shapeOf code ps = record { layout = layoutNumber code; size = sizeNumber (sizeIn
 abbrev pub noShape : Shape
 noShape = record { layout = 255; size = 0 }
 
--- The shape of an SDA, by whether it is good.
+-- The shape of an SDA by whether it is good.
 abbrev pub shapeIf : Bool → (code : ℕ) → List ℕ → Shape
 shapeIf good code ps = if good then shapeOf code ps else noShape
 
+-- An SDA's shape is that one, and its size fits two bytes.
 pub record Shaped (good : Bool) (code : ℕ) (ps : List ℕ) (x : Shape) : Type 0 where
   pub same : x ≡ shapeIf good code ps
   pub small : x .size < 65536

@@ -130,6 +130,10 @@ module _ (t : List ℕ) where
       let p : not (elem 0 (extentsOf t)) ≡ true = no-zero (extentsOf t) ∙ rw (← c) (lt-ltb 0 n (omega (arith, z))) in
       subst (λ b. Shaped b (codeOf t) (parametersOf t) x) (simp (ne-eqb (getD t 2 0) 0 i, p, g, and-true)) e
 
+-- a refusal has no shape
+pub refused-is : (n : ℕ) (x : Shape) (r : Judged) → x ≡ noShape → r ≡ record { number = n; shape = x; count = 0 } → r ≡ record { number = n; shape = noShape; count = 0 }
+refused-is n x r e h = h ∙ rw e
+
 -- the ways through judging an SDA
 module _ (t s : List ℕ) (r : Judged) where
   refused-by : (n : ℕ) → n ≢ 0 → r ≡ record { number = n; shape = noShape; count = 0 }

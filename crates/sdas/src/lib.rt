@@ -29,12 +29,10 @@ pub struct Judged {
 fn refused(number: u8) -> Judged
     ensures { λ r. ⌜ r ≡ record { number = number; shape = noShape; count = 0 } ⌝ }
 {
+    let shape = field_types::no_shape();
     Judged {
         number: number,
-        shape: Shape {
-            layout: field_types::NO_LAYOUT,
-            size: 0,
-        },
+        shape: shape,
         count: 0,
     }
 }
