@@ -4,7 +4,7 @@
 use reader::*;
 
 use crate::support::{
-    assert_block, assert_check, assert_nullable, hex, refused, rows, sda, Answer,
+    assert_block, assert_both_forms, assert_nullable, hex, refused, rows, sda, Answer,
 };
 
 const DESCRIPTORS: &str = include_str!("float_descriptors.txt");
@@ -12,12 +12,7 @@ const ROWS: &str = include_str!("float_rows.txt");
 
 #[test]
 fn parameters_are_judged_as_listed() {
-    for [name, descriptor, answer] in rows(DESCRIPTORS) {
-        let mut descriptor = hex(descriptor);
-        assert_check(name, &descriptor, answer);
-        descriptor[3] |= 0x80;
-        assert_check(name, &descriptor, answer);
-    }
+    assert_both_forms(rows(DESCRIPTORS));
 }
 
 /// Plain type, field lengths, answer for the one item.

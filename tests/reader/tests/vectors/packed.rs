@@ -4,7 +4,7 @@
 use reader::*;
 
 use crate::support::{
-    assert_behind_indicator, assert_block, assert_blocks, assert_check, every_sda, hex,
+    assert_behind_indicator, assert_block, assert_blocks, assert_both_forms, every_sda, hex,
     is_nullable, parse_refusal, refused, rows, sda, Answer,
 };
 
@@ -13,12 +13,7 @@ const BLOCKS: &str = include_str!("packed_blocks.txt");
 
 #[test]
 fn parameters_are_judged_as_listed() {
-    for [name, descriptor, answer] in rows(DESCRIPTORS) {
-        let mut descriptor = hex(descriptor);
-        assert_check(name, &descriptor, answer);
-        descriptor[3] |= 0x80;
-        assert_check(name, &descriptor, answer);
-    }
+    assert_both_forms(rows(DESCRIPTORS));
 }
 
 #[test]

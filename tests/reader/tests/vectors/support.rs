@@ -136,6 +136,17 @@ pub fn assert_check(name: &str, descriptor: &[u8], answer: &str) {
     assert_eq!(check(descriptor), expected, "{name}");
 }
 
+/// Asserts the check of descriptors that begin with an SDA, of its type and of the
+/// nullable form alike.
+pub fn assert_both_forms(rows: Vec<[&str; 3]>) {
+    for [name, descriptor, answer] in rows {
+        let mut descriptor = hex(descriptor);
+        assert_check(name, &descriptor, answer);
+        descriptor[3] |= 0x80;
+        assert_check(name, &descriptor, answer);
+    }
+}
+
 /// Name, descriptor, data, answer for item 0.
 pub type BlockRow<'t> = [&'t str; 4];
 
