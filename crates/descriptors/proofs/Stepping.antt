@@ -58,9 +58,6 @@ module _ (t s : List ℕ) (j : Judged) (y : JudgedSDA t s j) where
     pub judged-shape : j .shape ≡ shapeOf (codeOf t) (parametersOf t)
     judged-shape = y .shape h
 
-    pub judged-size : j .shape .size < 65536
-    judged-size = y .size-small
-
     judged-small : j .count ≤ 4096
     judged-small = y .small
 

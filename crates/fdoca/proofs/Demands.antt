@@ -17,15 +17,15 @@ use lib.ListN.{length, drop, getElem?}
 use borrow.Author.Tests.{le-ltb}
 use Rattle.fdoca.specs.Basics.{if_then_else_, Result, refuse, ok, _>>=_, _>>_, reject, the}
 use Rattle.fdoca.specs.FieldType.{FieldType, fixed, typeOf, bytes, digits, sizeOf, ruleOf}
-use Rattle.fdoca.specs.Triplet.{codeOf, parametersOf, sizeIn}
+use Rattle.fdoca.specs.Triplet.{codeOf, parametersOf}
 use Rattle.fdoca.specs.Item.{Field}
 use Rattle.fdoca.specs.Walk.{Note, walk}
-use Rattle.fdoca.specs.Check.{maxDescriptor, Entry, goodType, goodLengthSDA, checkSDA, check}
-use Rattle.fdoca.specs.Unfolding.{unfolded}
+use Rattle.fdoca.specs.Check.{maxDescriptor, Entry, goodLengthSDA, checkSDA, check}
+use Rattle.fdoca.specs.Unfolding.{fieldOf, unfolded}
 use Rattle.fdoca.specs.Account.{Parts, Block, Packed}
 use Rattle.fdoca.specs.Calls.{maxData, oversize, itemList, list, itemAt, valueOf, wholeOf, wholeNumber, packed, checked, listed, entriesAfter, stateOf, lent, wholeAnswer, decimalAnswer}
 use Rattle.fdoca.specs.Packed.{packedNumber}
-use Rattle.fdoca.specs.Reasons.{byte, F, Allowed, Means, OfItems, OfDescriptor, OfList, OfState, OfWholeNumber, OfPacked, fileDescriptor, fileData, OfFile, First, None}
+use Rattle.fdoca.specs.Reasons.{byte, OneOf, F, Allowed, Means, OfItems, OfDescriptor, OfList, OfState, OfWholeNumber, OfPacked, fileDescriptor, fileData, OfFile, First, None}
 use Rattle.fdoca.specs.Dump.{refusedLine, textOf, secondSize, dump}
 use Rattle.fdoca.specs.Cover.{sum, positions, lengths, InItem, startOf, notesOf, noteOfParts}
 use Rattle.fdoca.proofs.Table.{there, past-end}
@@ -36,7 +36,7 @@ use Rattle.fdoca.proofs.Cover.{walk-covers, in-an-item, in-one-item}
 use Rattle.fdoca.proofs.Blocks.{walk-complete, walk-sound, note-of-part}
 use Rattle.fdoca.proofs.Calls.{items-noted, list-keeps}
 use Rattle.fdoca.proofs.FirstReasons.{refused-first, accepted-none}
-use Rattle.fdoca.proofs.TypeRows.{code-of-type, size-given, size-default, size-else}
+use Rattle.fdoca.proofs.TypeRows.{code-of-type, size-given, size-default, size-else, no-sixteen, sixteen-kept}
 use Rattle.fdoca.proofs.CheckRows.{check-told}
 use Rattle.fdoca.proofs.CallRows.{items-told, list-told, state-told, whole-told}
 use Rattle.fdoca.proofs.Fields.{good-at, digits-packed, fields-good, field-allowed, item-good}
@@ -223,28 +223,37 @@ module _ (d s : List ℕ) (n : ℕ) (accepts : check d ≡ ok n) (few : length s
 
 -- DEMAND 2
 
--- The size that holds for the parameters of an SDA whose type code is c (Q-2) is the one that they give where 01's table allows it,
-module _ (c : ℕ) (T : FieldType) (typed : typeOf c ≡ some T) (ps : List ℕ) where
-  pub given-holds : (bias mode : ℕ) → Allowed c bias mode (byte ps 6) (byte ps 7) → sizeIn (ruleOf T) ps ≡ sizeOf (ruleOf T .sizes) (byte ps 6) (byte ps 7)
-  given-holds bias mode h = size-given c T typed (byte ps 6) (byte ps 7) bias mode h
+-- The size of an SDA's field (Q-2) is the one that its parameters give where 01's table allows that,
+module _ (t : List ℕ) where
+  abbrev sixth : ℕ
+  sixth = byte (parametersOf t) 6
 
-  -- the default of the type where Q-2 puts one in,
-  pub default-holds : (n : ℕ) → Means c (F (byte ps 6) (byte ps 7)) n → sizeIn (ruleOf T) ps ≡ bytes n
-  default-holds n h = size-default T (byte ps 6) (byte ps 7) c n (code-of-type c T typed) h .0
+  abbrev seventh : ℕ
+  seventh = byte (parametersOf t) 7
 
-  -- and where there is neither, the SDA is refused with 6.
-  pub else-6 : (es : List (ℕ × Entry)) (p : ℕ) (t : List ℕ) → goodLengthSDA t ≡ true → codeOf t ≡ c → parametersOf t ≡ ps
-      → ((bias mode : ℕ) → Allowed c bias mode (byte ps 6) (byte ps 7) → ⊥) → ((n : ℕ) → Means c (F (byte ps 6) (byte ps 7)) n → ⊥)
-      → checkSDA es p t ≡ refuse 6 p
-  unfolding checkSDA
-  else-6 es p t l ec ep no-given none-put-in =
-      let bad : goodType (typeOf (codeOf t)) (parametersOf t) ≡ false = rw (ec, ep, typed) (size-else c T typed ps no-given none-put-in) in
-      rw (l, bad-type t bad)
+  module _ (T : FieldType) (typed : typeOf (codeOf t) ≡ some T) where
+    pub given-holds : (bias mode : ℕ) → Allowed (codeOf t) bias mode sixth seventh → fieldOf T t .size ≡ sizeOf (ruleOf T .sizes) sixth seventh
+    given-holds bias mode h = size-given (codeOf t) T typed sixth seventh bias mode h
 
--- No field of an accepted descriptor has a size that 01's table does not allow.
+    -- the default of the type where Q-2 puts one in,
+    pub default-holds : (n : ℕ) → Means (codeOf t) sixth seventh n → fieldOf T t .size ≡ bytes n
+    default-holds n h = size-default T sixth seventh (codeOf t) n (code-of-type (codeOf t) T typed) h .0
+
+  -- and where there is neither, the SDA is refused with 6;
+  module _ (es : List (ℕ × Entry)) (p : ℕ) (l : goodLengthSDA t ≡ true) where
+    pub else-6 : ((bias mode : ℕ) → Allowed (codeOf t) bias mode sixth seventh → ⊥) → ((n : ℕ) → Means (codeOf t) sixth seventh n → ⊥)
+        → checkSDA es p t ≡ refuse 6 p
+    unfolding checkSDA
+    else-6 no-given none-put-in = rw (l, bad-type t (size-else (codeOf t) (parametersOf t) no-given none-put-in))
+
+    -- so a binary float of 16 bytes is.
+    pub sixteen-6 : OneOf (codeOf t) (0x47 ∷ 0x48 ∷ 0xC7 ∷ 0xC8 ∷ []) → F sixth seventh ≡ 16 → checkSDA es p t ≡ refuse 6 p
+    sixteen-6 c e = else-6 (no-sixteen sixth seventh e (codeOf t) c) (sixteen-kept sixth seventh e (codeOf t))
+
+-- No field of an accepted descriptor has a size that 01's table does not allow for its code, whatever the bias indicator, of which 0 is always allowed.
 pub lengths-allowed : (d : List ℕ) (n : ℕ) → check d ≡ ok n → (before : List Field) (f : Field) (after : List Field) → unfolded d ≡ before ++ (f ∷ after)
-    → (a b : ℕ) × Allowed (f .code) 0 (f .mode) a b × (f .size ≡ sizeOf (ruleOf (f .type) .sizes) a b)
-lengths-allowed d n e before f after k = field-allowed f (good-at before f after (rw k at (fields-good d n e)))
+    → (typeOf (f .code) ≡ some (f .type)) × ((a b : ℕ) × Allowed (f .code) 0 (f .mode) a b × (f .size ≡ sizeOf (ruleOf (f .type) .sizes) a b))
+lengths-allowed d n e before f after k = let g = good-at before f after (rw k at (fields-good d n e)) in (g .typed, field-allowed f g)
 
 -- A list call accepts a block only if its bytes are the items of the unfolding by the standard's account, one after the other and nothing behind,
 pub accepted-is-block : (d s old new : List ℕ) → list d s old ≡ ok new → (xs : List Parts) × Block (unfolded d) xs s

@@ -205,7 +205,7 @@ modes-known d n e before f after k = go (f .mode) (mode-known (good-at before f 
     go zero h = inl refl
     go (suc m) h = inr (omega arith)
 
--- an allowed size is what two bytes give
+-- an allowed size is what two numbers give in place of the bytes
 two-bytes : (z : Sizes) (size : Size) → allows z size ≡ true → (a b : ℕ) × (size ≡ sizeOf z a b)
 two-bytes (upTo n) (bytes G) h = (G / 256, G % 256, ap bytes (omega arith))
 two-bytes (oneOf ns) (bytes G) h = (G / 256, G % 256, ap bytes (omega arith))

@@ -1,4 +1,5 @@
--- What the table of rules allows is what document 01's table of field types allows: type code, bias indicator, mode and size.
+-- What the table of rules allows is what document 01's table of field types allows: type code, bias indicator, mode and size. The size that holds
+-- is the one that Q-2 says.
 -- Assumes nothing.
 use mathlib.Core.Path.{_≡_, refl, sym, ap, _∙_}
 use Prim.Native.Nat.{ℕ, _+_, _-_, _≤_, _<_}
@@ -13,9 +14,9 @@ use borrow.Author.Tests.{ltb-true, leb-true, le-leb, lt-leb, eqb-true, eq-eqb}
 use Rattle.fdoca.specs.Basics.{if_then_else_, elem, lookup}
 use Rattle.fdoca.specs.FieldType.{FieldType, fixedBytes, variableBytes, terminatedBytes, shortBytes, integer, reversedInteger, packedDecimal, hexFloat, reversedFloat, binaryFloat, types, nullable, typeOf, Size, bytes, digits, oneOf, sizeOf, Rule, allows, ruleOf, lengthThatHolds, sizeThatHolds}
 use Rattle.fdoca.specs.Triplet.{biasOf, modeOf, sizeIn}
-use Rattle.fdoca.specs.Check.{most, goodParameters}
+use Rattle.fdoca.specs.Check.{most, goodParameters, goodType}
 use Rattle.fdoca.specs.Reasons as R
-use Rattle.fdoca.specs.Reasons.{OneOf, here, there, F, Allowed, fixed, variable, null-terminated, short, whole-number, reversed-whole-number, packed, Means, Hold, as-given, by-default}
+use Rattle.fdoca.specs.Reasons.{OneOf, here, there, F, Allowed, fixed, variable, null-terminated, short, whole-number, reversed-whole-number, packed, hexadecimal-float, reversed-float, float, Means, hexadecimal-default, reversed-default, float-default, nullable-default, Hold, as-given, by-default}
 use Rattle.fdoca.proofs.Table.{looked-up}
 use Rattle.fdoca.proofs.Tests.{and-left, and-right}
 
@@ -94,6 +95,9 @@ type-of-code {c} {T} (as-nullable {b = b} e l q) =
     let k : c - 128 ≡ b = omega arith in
     rw (le-leb 128 c (omega arith), k, e) (type-of-plain T)
 
+same-type : {c : ℕ} {T U : FieldType} → Coded T c → typeOf c ≡ some U → T ≡ U
+same-type {c} {T} {U} k e = Option·some-injective T U (sym (type-of-code k) ∙ e)
+
 -- the parts of good parameters
 pub record Good (r : Rule) (ps : List ℕ) : Type 0 where
   pub zeros : (getD ps 0 0 ≡ 0) × (getD ps 1 0 ≡ 0) × (getD ps 4 0 ≡ 0)
@@ -169,9 +173,9 @@ module _ (bias mode a b : ℕ) where
   allowed integer h = bare (h .bias-is) (h .mode-is) (whole-number (elem-in (F a b) (2 ∷ 4 ∷ 8 ∷ []) (h .size-is)))
   allowed reversedInteger h = bare (h .bias-is) (h .mode-is) (reversed-whole-number (elem-in (F a b) (2 ∷ 4 ∷ 8 ∷ []) (h .size-is)))
   allowed packedDecimal h = bare (h .bias-is) (h .mode-is) (of-digits (h .size-is))
-  allowed hexFloat h = bare (h .bias-is) (h .mode-is) (R.Allowed.hexadecimal-float (elem-in (F a b) (4 ∷ 8 ∷ 16 ∷ []) (h .size-is)))
-  allowed reversedFloat h = no-mode (h .mode-is) (R.Allowed.reversed-float (elem-in (F a b) (4 ∷ 8 ∷ []) (h .size-is)) (h .bias-is))
-  allowed binaryFloat h = no-mode (h .mode-is) (R.Allowed.float (elem-in (F a b) (4 ∷ 8 ∷ []) (h .size-is)) (h .bias-is))
+  allowed hexFloat h = bare (h .bias-is) (h .mode-is) (hexadecimal-float (elem-in (F a b) (4 ∷ 8 ∷ 16 ∷ []) (h .size-is)))
+  allowed reversedFloat h = no-mode (h .mode-is) (reversed-float (elem-in (F a b) (4 ∷ 8 ∷ []) (h .size-is)) (h .bias-is))
+  allowed binaryFloat h = no-mode (h .mode-is) (float (elem-in (F a b) (4 ∷ 8 ∷ []) (h .size-is)) (h .bias-is))
 
 -- The rule of a code's type allows what the table does,
 pub rule-allows : (c bias mode a b : ℕ) (T : FieldType) → typeOf c ≡ some T → bias ≤ most (ruleOf T .hasBias) → mode ≤ most (ruleOf T .hasMode)
@@ -183,7 +187,7 @@ rule-allows c bias mode a b T e l m z = go (code-of-type c T e)
 
     go : Coded T c → Allowed c bias mode a b
     go (as-plain q k) = rw q h
-    go (as-nullable q k r) = rw (r, q) (R.Allowed.nullable (rw q at k) h)
+    go (as-nullable q k r) = rw (r, q) (R.nullable (rw q at k) h)
 
 -- and the table what the rule does.
 pub record ByTable (c bias mode : ℕ) (size : Rule → Size) : Type 0 where
@@ -204,7 +208,7 @@ made : {c bias mode a b : ℕ} (T : FieldType) → c ≡ plainCode T → c < 128
     → allows (ruleOf T .sizes) (given a b (ruleOf T)) ≡ true → ByTable c bias mode (given a b)
 made T e k l m z = record { type = T; typed = as-plain e k; bias-is = l; mode-is = m; size-is = z }
 
-pub table-allows : {c bias mode a b : ℕ} → Allowed c bias mode a b → ByTable c bias mode (given a b)
+table-allows : {c bias mode a b : ℕ} → Allowed c bias mode a b → ByTable c bias mode (given a b)
 unfolding ruleOf
 table-allows (fixed {a = a} {b = b} h) = made fixedBytes refl (omega arith) (omega arith) (omega arith) (le-leb (F a b) 32767 h)
 table-allows (variable {a = a} {b = b} h m) = made variableBytes refl (omega arith) (omega arith) m (le-leb (F a b) 32767 h)
@@ -215,10 +219,10 @@ table-allows (reversed-whole-number h) = made reversedInteger refl (omega arith)
 table-allows (packed {p = p} {q = q} l h k) =
     let z : (leb 1 p && leb p 18 && leb q p) ≡ true = rw (le-leb 1 p l, le-leb p 18 h, le-leb q p k) in
     made packedDecimal refl (omega arith) (omega arith) (omega arith) z
-table-allows (R.Allowed.hexadecimal-float h) = made hexFloat refl (omega arith) (omega arith) (omega arith) (in-elem h)
-table-allows (R.Allowed.reversed-float h l) = made reversedFloat refl (omega arith) l (omega arith) (in-elem h)
-table-allows (R.Allowed.float h l) = made binaryFloat refl (omega arith) l (omega arith) (in-elem h)
-table-allows (R.Allowed.nullable k h) =
+table-allows (hexadecimal-float h) = made hexFloat refl (omega arith) (omega arith) (omega arith) (in-elem h)
+table-allows (reversed-float h l) = made reversedFloat refl (omega arith) l (omega arith) (in-elem h)
+table-allows (float h l) = made binaryFloat refl (omega arith) l (omega arith) (in-elem h)
+table-allows (R.nullable k h) =
     let t = table-allows h in
     record { type = t .type; typed = with-indicator k (t .typed); bias-is = t .bias-is; mode-is = t .mode-is; size-is = t .size-is }
 
@@ -229,7 +233,7 @@ floats = 4 ∷ 8 ∷ 16 ∷ []
 data Default (T : FieldType) : Option ℕ → Type 0 where
   no-default : Default T none
   of-float : {n : ℕ} (ns : List ℕ) → ruleOf T .sizes ≡ oneOf ns → ((G : ℕ) → OneOf G ns → OneOf G floats)
-      → ((G : ℕ) → (OneOf G floats → ⊥) → Means (plainCode T) G n) → Default T (some n)
+      → ((a b : ℕ) → (OneOf (F a b) floats → ⊥) → Means (plainCode T) a b n) → Default T (some n)
 
 binary-length : (G : ℕ) → OneOf G (4 ∷ 8 ∷ []) → OneOf G floats
 binary-length G (here e) = here e
@@ -244,9 +248,9 @@ default-of shortBytes = no-default
 default-of integer = no-default
 default-of reversedInteger = no-default
 default-of packedDecimal = no-default
-default-of hexFloat = of-float floats refl (λ G h. h) (λ G h. R.Means.hexadecimal-float h)
-default-of reversedFloat = of-float (4 ∷ 8 ∷ []) refl binary-length (λ G h. R.Means.reversed-float h)
-default-of binaryFloat = of-float (4 ∷ 8 ∷ []) refl binary-length (λ G h. R.Means.float h)
+default-of hexFloat = of-float floats refl (λ G h. h) (λ a b h. hexadecimal-default h)
+default-of reversedFloat = of-float (4 ∷ 8 ∷ []) refl binary-length (λ a b h. reversed-default h)
+default-of binaryFloat = of-float (4 ∷ 8 ∷ []) refl binary-length (λ a b h. float-default h)
 
 -- the length that holds where there is a default
 module _ (n G : ℕ) where
@@ -263,18 +267,18 @@ no-other r (bytes G) e = rw e
 no-other r (digits p q) e = refl
 
 -- what Q-2 says of a code is its type's default
-record ByMeans (c G n : ℕ) : Type 0 where
+record ByMeans (c a b n : ℕ) : Type 0 where
   type : FieldType
   typed : Coded type c
   default-is : ruleOf type .default ≡ some n
-  other : OneOf G floats → ⊥
+  other : OneOf (F a b) floats → ⊥
 
-by-means : {c G n : ℕ} → Means c G n → ByMeans c G n
+by-means : {c a b n : ℕ} → Means c a b n → ByMeans c a b n
 unfolding ruleOf
-by-means (R.Means.hexadecimal-float h) = record { type = hexFloat; typed = as-plain refl (omega arith); default-is = refl; other = h }
-by-means (R.Means.reversed-float h) = record { type = reversedFloat; typed = as-plain refl (omega arith); default-is = refl; other = h }
-by-means (R.Means.float h) = record { type = binaryFloat; typed = as-plain refl (omega arith); default-is = refl; other = h }
-by-means (R.Means.nullable k m) =
+by-means (hexadecimal-default h) = record { type = hexFloat; typed = as-plain refl (omega arith); default-is = refl; other = h }
+by-means (reversed-default h) = record { type = reversedFloat; typed = as-plain refl (omega arith); default-is = refl; other = h }
+by-means (float-default h) = record { type = binaryFloat; typed = as-plain refl (omega arith); default-is = refl; other = h }
+by-means (nullable-default k m) =
     let q = by-means m in
     record { type = q .type; typed = with-indicator k (q .typed); default-is = q .default-is; other = q .other }
 
@@ -290,14 +294,14 @@ module _ (T : FieldType) (a b : ℕ) where
           rw (es, e) (ap bytes (length-holds n (F a b) .0 (sub (F a b) (elem-in (F a b) ns k))))
 
   -- the default that Q-2 puts in for it otherwise,
-  pub size-default : (c n : ℕ) → Coded T c → Means c (F a b) n → (held a b (ruleOf T) ≡ bytes n) × (given 0 n (ruleOf T) ≡ bytes n)
+  pub size-default : (c n : ℕ) → Coded T c → Means c a b n → (held a b (ruleOf T) ≡ bytes n) × (given 0 n (ruleOf T) ≡ bytes n)
   size-default c n k m = go (ruleOf T .default) refl (default-of T)
     where
-      q : ByMeans c (F a b) n
+      q : ByMeans c a b n
       q = by-means m
 
       same : q .type ≡ T
-      same = Option·some-injective (q .type) T (sym (type-of-code (q .typed)) ∙ type-of-code k)
+      same = same-type (q .typed) (type-of-code k)
 
       is : ruleOf T .default ≡ some n
       is = sym (ap (λ U. ruleOf U .default) same) ∙ q .default-is
@@ -311,15 +315,15 @@ pub rule-holds : (c bias mode a b : ℕ) (T : FieldType) → typeOf c ≡ some T
     → allows (ruleOf T .sizes) (held a b (ruleOf T)) ≡ true → Hold c bias mode a b
 rule-holds c bias mode a b T typed l m h = go (ruleOf T .default) refl (default-of T)
   where
-    means-of : {G n : ℕ} → Coded T c → Means (plainCode T) G n → Means c G n
+    means-of : {n : ℕ} → Coded T c → Means (plainCode T) a b n → Means c a b n
     means-of (as-plain q k) x = rw q x
-    means-of (as-nullable q k r) x = rw (r, q) (R.Means.nullable (rw q at k) x)
+    means-of (as-nullable q k r) x = rw (r, q) (nullable-default (rw q at k) x)
 
-    float : (n : ℕ) (ns : List ℕ) → ruleOf T .sizes ≡ oneOf ns → ((G : ℕ) → (OneOf G floats → ⊥) → Means (plainCode T) G n) → (x : Bool)
+    float : (n : ℕ) (ns : List ℕ) → ruleOf T .sizes ≡ oneOf ns → ((a b : ℕ) → (OneOf (F a b) floats → ⊥) → Means (plainCode T) a b n) → (x : Bool)
         → elem (F a b) floats ≡ x → elem (if x then F a b else n) ns ≡ true → Hold c bias mode a b
     float n ns es means true e k = as-given (rule-allows c bias mode a b T typed l m (rw es k))
     float n ns es means false e k =
-        by-default (means-of (code-of-type c T typed) (means (F a b) (elem-out (F a b) floats e))) (rule-allows c bias mode 0 n T typed l m (rw (es, zero-add n) k))
+        by-default (means-of (code-of-type c T typed) (means a b (elem-out (F a b) floats e))) (rule-allows c bias mode 0 n T typed l m (rw (es, zero-add n) k))
 
     go : (o : Option ℕ) → ruleOf T .default ≡ o → Default T o → Hold c bias mode a b
     go none e no-default = as-given (rule-allows c bias mode a b T typed l m (rw (no-other (ruleOf T) (given a b (ruleOf T)) e) at h))
@@ -338,19 +342,42 @@ table-holds (by-default {code = c} {a = a} {b = b} {n = n} m h) =
 pub size-given : (c : ℕ) (T : FieldType) → typeOf c ≡ some T → (a b bias mode : ℕ) → Allowed c bias mode a b → held a b (ruleOf T) ≡ given a b (ruleOf T)
 size-given c T typed a b bias mode h =
     let t = table-allows h in
-    let same : t .type ≡ T = Option·some-injective (t .type) T (sym (type-of-code (t .typed)) ∙ typed) in
-    size-kept T a b (rw same at (t .size-is))
+    size-kept T a b (rw (same-type (t .typed) typed) at (t .size-is))
 
-pub size-else : (c : ℕ) (T : FieldType) → typeOf c ≡ some T → (ps : List ℕ) → ((bias mode : ℕ) → Allowed c bias mode (getD ps 6 0) (getD ps 7 0) → ⊥)
-    → ((n : ℕ) → Means c (F (getD ps 6 0) (getD ps 7 0)) n → ⊥) → goodParameters (ruleOf T) ps ≡ false
-size-else c T typed ps no-given none-put-in = go (goodParameters (ruleOf T) ps) refl
+pub size-else : (c : ℕ) (ps : List ℕ) → ((bias mode : ℕ) → Allowed c bias mode (getD ps 6 0) (getD ps 7 0) → ⊥)
+    → ((n : ℕ) → Means c (getD ps 6 0) (getD ps 7 0) n → ⊥) → goodType (typeOf c) ps ≡ false
+size-else c ps no-given none-put-in = go (typeOf c) refl
   where
     none-holds : Hold c (biasOf ps) (modeOf ps) (getD ps 6 0) (getD ps 7 0) → ⊥
     none-holds (as-given h) = no-given _ _ h
     none-holds (by-default m h) = none-put-in _ m
 
-    go : (b : Bool) → goodParameters (ruleOf T) ps ≡ b → b ≡ false
-    go false e = refl
-    go true e =
-        let g = good-parts (ruleOf T) ps e in
-        absurd (none-holds (rule-holds c (biasOf ps) (modeOf ps) (getD ps 6 0) (getD ps 7 0) T typed (g .bias) (g .mode) (g .size-allowed)))
+    judged : (T : FieldType) → typeOf c ≡ some T → (b : Bool) → goodParameters (ruleOf T) ps ≡ b → b ≡ false
+    judged T e false q = refl
+    judged T e true q =
+        let g = good-parts (ruleOf T) ps q in
+        absurd (none-holds (rule-holds c (biasOf ps) (modeOf ps) (getD ps 6 0) (getD ps 7 0) T e (g .bias) (g .mode) (g .size-allowed)))
+
+    go : (o : Option FieldType) → typeOf c ≡ o → goodType o ps ≡ false
+    go none e = refl
+    go (some T) e = judged T e (goodParameters (ruleOf T) ps) refl
+
+-- A binary float of 16 bytes is neither allowed nor replaced.
+module _ (a b : ℕ) (e : F a b ≡ 16) where
+  pub no-sixteen : (c : ℕ) → OneOf c (0x47 ∷ 0x48 ∷ 0xC7 ∷ 0xC8 ∷ []) → (bias mode : ℕ) → Allowed c bias mode a b → ⊥
+  unfolding typeOf ruleOf
+  no-sixteen c k bias mode h = go (typed k) (table-allows h)
+    where
+      typed : OneOf c (0x47 ∷ 0x48 ∷ 0xC7 ∷ 0xC8 ∷ []) → (T : FieldType) × (typeOf c ≡ some T) × (ruleOf T .sizes ≡ oneOf (4 ∷ 8 ∷ []))
+      typed (here q) = (reversedFloat, rw q, refl)
+      typed (there (here q)) = (binaryFloat, rw q, refl)
+      typed (there (there (here q))) = (reversedFloat, rw q, refl)
+      typed (there (there (there (here q)))) = (binaryFloat, rw q, refl)
+
+      go : (T : FieldType) × (typeOf c ≡ some T) × (ruleOf T .sizes ≡ oneOf (4 ∷ 8 ∷ [])) → ByTable c bias mode (given a b) → ⊥
+      go (T, q, s) t =
+          let x : allows (ruleOf T .sizes) (given a b (ruleOf T)) ≡ true = rw (same-type (t .typed) q) at (t .size-is) in
+          true≢false (sym (rw (s, e) at x))
+
+  pub sixteen-kept : (c n : ℕ) → Means c a b n → ⊥
+  sixteen-kept c n m = by-means m .other (there (there (here e)))

@@ -66,7 +66,7 @@ addGroups p es n (g ∷ gs) = addGroup p n g (lookup (g .ref) es) >>= (λ m. add
 abbrev pub most : Bool → ℕ
 most has = if has then 1 else 0
 
--- The type parameters are what a rule allows, the size by the one that holds.
+-- The type parameters are what a rule allows; of the size, the one that holds.
 unfoldable pub goodParameters : Rule → List ℕ → Bool
 goodParameters r ps =
     eqb (getD ps 0 0) 0

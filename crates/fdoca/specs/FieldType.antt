@@ -104,7 +104,8 @@ ruleOf hexFloat = rule fixed (oneOf (4 ∷ 8 ∷ 16 ∷ [])) (some 8) false fals
 ruleOf reversedFloat = rule fixed (oneOf (4 ∷ 8 ∷ [])) (some 4) false true
 ruleOf binaryFloat = rule fixed (oneOf (4 ∷ 8 ∷ [])) (some 4) false true
 
--- The field length that holds where an SDA gives F (Q-2): for a type with a default, an F other than 4, 8, 16 means the default.
+-- The field length that holds where an SDA gives F (Q-2): for a type with a default, an F other than 4, 8, 16 means the default. These three hold as
+-- they are given, allowed or not: 16 is not among the sizes of X'47' and X'48'.
 abbrev pub lengthThatHolds : (default : Option ℕ) → (F : ℕ) → ℕ
 lengthThatHolds none F = F
 lengthThatHolds (some n) F = if elem F (4 ∷ 8 ∷ 16 ∷ []) then F else n

@@ -1,4 +1,4 @@
--- Document 01's table "Numbers a caller can meet", and 20 by document 02, row by row: for each number its column "When", said of a triplet, a group, an
+-- Document 01's table "Numbers a caller can meet", with 6 as Q-2 leaves it and 20 by Q-1, row by row: for each number its column "When", said of a triplet, a group, an
 -- item or a call by itself, with its place and without regard to the other rows; then 01's order. Bytes are read at their places. The unfolding, a
 -- field's length in bytes, the split of bytes into halves and the standard's account of an item are taken from their own files; nothing is taken from the
 -- check, from measuring, or from the calls.
@@ -143,16 +143,16 @@ pub data Allowed : (code bias mode a b : ℕ) → Type 0 where
   nullable : {code bias mode a b : ℕ} → code < 0x80 → Allowed code bias mode a b → Allowed (code + 0x80) bias mode a b
 
 -- Q-2: what an F that is replaced means. For X'40' an F other than 4, 8, 16 means 8; for X'47' and X'48' an F other than 4, 8 or 16 means 4.
-pub data Means : (code F n : ℕ) → Type 0 where
-  hexadecimal-float : {F : ℕ} → (OneOf F (4 ∷ 8 ∷ 16 ∷ []) → ⊥) → Means 0x40 F 8
-  reversed-float : {F : ℕ} → (OneOf F (4 ∷ 8 ∷ 16 ∷ []) → ⊥) → Means 0x47 F 4
-  float : {F : ℕ} → (OneOf F (4 ∷ 8 ∷ 16 ∷ []) → ⊥) → Means 0x48 F 4
-  nullable : {code F n : ℕ} → code < 0x80 → Means code F n → Means (code + 0x80) F n
+pub data Means : (code a b n : ℕ) → Type 0 where
+  hexadecimal-default : {a b : ℕ} → (OneOf (F a b) (4 ∷ 8 ∷ 16 ∷ []) → ⊥) → Means 0x40 a b 8
+  reversed-default : {a b : ℕ} → (OneOf (F a b) (4 ∷ 8 ∷ 16 ∷ []) → ⊥) → Means 0x47 a b 4
+  float-default : {a b : ℕ} → (OneOf (F a b) (4 ∷ 8 ∷ 16 ∷ []) → ⊥) → Means 0x48 a b 4
+  nullable-default : {code a b n : ℕ} → code < 0x80 → Means code a b n → Means (code + 0x80) a b n
 
--- The parameters hold as they are given, or with the default in place of F.
+-- The parameters hold as they are given; or with the default n in place of F, whose two bytes are then 0 and n.
 pub data Hold : (code bias mode a b : ℕ) → Type 0 where
   as-given : {code bias mode a b : ℕ} → Allowed code bias mode a b → Hold code bias mode a b
-  by-default : {code bias mode a b n : ℕ} → Means code (F a b) n → Allowed code bias mode 0 n → Hold code bias mode a b
+  by-default : {code bias mode a b n : ℕ} → Means code a b n → Allowed code bias mode 0 n → Hold code bias mode a b
 
 -- An SDA's type and parameters: field type in byte 3, then eight bytes, of which 2 and 3 are the bias indicator, 5 the mode, 6 and 7 the size.
 pub record GoodParameters (d : List ℕ) (j : ℕ) : Type 0 where

@@ -18,11 +18,11 @@ use Rattle.fdoca.proofs.Tests.{by-test, by-lt}
 use Rattle.field_types.specs.declared.Rule.{Rule}
 use Rattle.field_types.specs.declared.Shape.{Shape}
 use Rattle.field_types.specs.Rows.{rowOf, topOf, sizesOf, mostDigits, defaultNumber, noSize, sizeAt, formOf, inNumbers, ruleFor, encoded, ruleAt}
-use Rattle.field_types.specs.Parameters.{unusedZero, lengthAllowed, digitsAllowed, sizeAllowed, ruleAllows, sizeHeld, goodEight, layoutNumber, sizeNumber, shapeOf, noShape, Shaped}
+use Rattle.field_types.specs.Parameters.{unusedZero, lengthAllowed, digitsAllowed, sizeAllowed, ruleAllows, sizeHeld, goodEight, layoutNumber, sizeNumber, shapeOf, noShape, shapeIf}
 use Rattle.field_types.proofs.Rows.{rule-in-row, prefix-below-4}
 use Rattle.numbers.proofs.Pairs.{two-at}
 
--- no type has more than three sizes, one with digits allows one at the least and has no default, and a default is a number of two bytes
+-- no type has more than three sizes, one with digits allows one at the least and has no default, and a default is a number of two bytes above 0
 abbrev Few : Sizes → Option ℕ → Type 0
 Few (upTo n) none = Unit {0}
 Few (oneOf ns) none = length ns ≤ 3
@@ -54,6 +54,9 @@ few-default : (z : Sizes) (m : ℕ) → Few z (some m) → (0 < m) × (m < 65536
 few-default (upTo n) m h = h
 few-default (oneOf ns) m h = (h .1, h .2)
 
+whole : (F : ℕ) → F / 256 * 256 + F % 256 ≡ F
+whole F = omega arith
+
 -- a size by its two bytes as one number
 abbrev sizeOfNumber : Sizes → (F : ℕ) → Size
 sizeOfNumber z F = sizeOf z (F / 256) (F % 256)
@@ -74,20 +77,17 @@ module _ (F : ℕ) (small : F < 65536) where
   not-size : eqb F noSize ≡ false
   not-size = ne-eqb F noSize (λ e. omega arith)
 
-  whole : F / 256 * 256 + F % 256 ≡ F
-  whole = omega arith
-
   size-test : (z : Sizes) → Few z none → sizeTest z ≡ allows z (sizeOfNumber z F)
   unfolding topOf sizesOf sizeAt mostDigits digitsAllowed
   size-test (upTo n) h =
-      rw whole
+      rw (whole F)
       (by-lt (λ z. z ≡ leb F n) F (n + 1)
       (λ (l : F < n + 1). sym (le-leb F n (omega arith)))
       (λ (l : n + 1 ≤ F). simp (not-size) (sym (lt-leb F n (omega arith)))))
   size-test (oneOf []) h = simp (le-ltb F 0 zero-le, not-size)
-  size-test (oneOf (x ∷ [])) h = simp (le-ltb F 0 zero-le, not-size, whole)
-  size-test (oneOf (x ∷ y ∷ [])) h = simp (le-ltb F 0 zero-le, not-size, whole)
-  size-test (oneOf (x ∷ y ∷ z ∷ [])) h = simp (le-ltb F 0 zero-le, whole)
+  size-test (oneOf (x ∷ [])) h = simp (le-ltb F 0 zero-le, not-size, whole F)
+  size-test (oneOf (x ∷ y ∷ [])) h = simp (le-ltb F 0 zero-le, not-size, whole F)
+  size-test (oneOf (x ∷ y ∷ z ∷ [])) h = simp (le-ltb F 0 zero-le, whole F)
   size-test (oneOf (x ∷ y ∷ z ∷ w ∷ ns)) h = absurd (let z : ⊥ = omega arith in z)
   size-test (digitsUpTo n) h =
       let a : ℕ = F / 256 in
@@ -122,12 +122,9 @@ module _ (r : definition.Rule) (a b : ℕ) (low : b < 256) (h : Few (r .sizes) (
   held-is : (number (r .default) ≡ sizeNumber (holding (r .sizes) (r .default))) × (sizeOfNumber (r .sizes) (number (r .default)) ≡ holding (r .sizes) (r .default))
   held-is = go (r .sizes) (r .default) h
     where
-      whole-again : (F : ℕ) → bytes (F / 256 * 256 + F % 256) ≡ bytes F
-      whole-again F = ap bytes (omega arith)
-
       go : (z : Sizes) (o : Option ℕ) → Few z o → (number o ≡ sizeNumber (holding z o)) × (sizeOfNumber z (number o) ≡ holding z o)
-      go (upTo n) o k = (refl, whole-again (number o))
-      go (oneOf ns) o k = (refl, whole-again (number o))
+      go (upTo n) o k = (refl, ap bytes (whole (number o)))
+      go (oneOf ns) o k = (refl, ap bytes (whole (number o)))
       go (digitsUpTo n) none k =
           let e : (a * 256 + b) / 256 ≡ a = omega arith in
           let f : (a * 256 + b) % 256 ≡ b = omega arith in
@@ -193,19 +190,25 @@ number-small (upTo n) l = omega (arith, prefix-below-4 l)
 number-small (oneOf ns) l = omega (arith, prefix-below-4 l)
 
 module _ (code : ℕ) (ps : List ℕ) (x : Shape) where
-  pub shape-none : (good : Bool) → Shaped good code ps x → x .layout ≡ 255 → good ≡ false
-  unfolding shapeOf layoutNumber
+  pub shape-none : (good : Bool) → x ≡ shapeIf good code ps → x .layout ≡ 255 → good ≡ false
+  unfolding shapeIf shapeOf layoutNumber
   shape-none true e h =
-      let q : x .layout ≡ layoutNumber code = ap (λ y. y .layout) (e .same) in
+      let q : x .layout ≡ layoutNumber code = ap (λ y. y .layout) e in
       absurd (let z : ⊥ = omega (arith, number-small (ruleFor (typeOf code) .sizes) (ruleFor (typeOf code) .layout)) in z)
   shape-none false e h = refl
 
-  pub shape-some : (good : Bool) → Shaped good code ps x → (x .layout ≡ 255 → ⊥) → good ≡ true
+  pub shape-some : (good : Bool) → x ≡ shapeIf good code ps → (x .layout ≡ 255 → ⊥) → good ≡ true
+  unfolding shapeIf
   shape-some true e h = refl
-  shape-some false e h = absurd (h (ap (λ y. y .layout) (e .same)))
+  shape-some false e h = absurd (h (ap (λ y. y .layout) e))
 
-  pub shape-not : (good : Bool) → x ≡ noShape → good ≡ false → Shaped good code ps x
-  shape-not good e h = record { same = e ∙ rw h; small = rw e (omega arith) }
+  pub shape-is : (good : Bool) → x ≡ shapeIf good code ps → good ≡ true → x ≡ shapeOf code ps
+  unfolding shapeIf
+  shape-is good e h = rw h at e
+
+  pub shape-not : (good : Bool) → x ≡ noShape → good ≡ false → x ≡ shapeIf good code ps
+  unfolding shapeIf
+  shape-not good e h = e ∙ rw h
 
 -- the ways through `shape_of`
 module _ (code : ℕ) (ps : List ℕ) where
@@ -239,7 +242,6 @@ module _ (code : ℕ) (ps : List ℕ) where
           let held : sizeOfNumber (R .sizes) size ≡ sizeIn R ps = rw (size-is, ← ea, ← eb) (held-is R a b low (few (typeOf code)) .1) in
           sym (d ∙ good ∙ simp (good-eight code ps h, by-parts, ← e, t, bias-read ps h, i, held)) ∙ x
 
-      pub by-shape : (good : Bool) → good ≡ true → Shaped good code ps (record { layout = r .prefix; size = size })
-      unfolding encoded inNumbers shapeOf layoutNumber
-      by-shape good h =
-          record { same = rw (h, size-is, held-is (ruleFor (typeOf code)) a b low (few (typeOf code)) .0, rule-is, ea, eb); small = small }
+      pub by-shape : (good : Bool) → good ≡ true → record { layout = r .prefix; size = size } ≡ shapeIf good code ps
+      unfolding encoded inNumbers shapeIf shapeOf layoutNumber
+      by-shape good h = rw (h, size-is, held-is (ruleFor (typeOf code)) a b low (few (typeOf code)) .0, rule-is, ea, eb)

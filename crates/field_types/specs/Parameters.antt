@@ -1,6 +1,5 @@
 -- The test of an SDA's eight type parameter bytes (document 01, "Field types"), its parts, and the shape of an SDA that is good.
-use Prim.Native.Nat.{ℕ, _+_, _*_, _/_, _%_, _<_}
-use mathlib.Core.Path.{_≡_}
+use Prim.Native.Nat.{ℕ, _+_, _*_, _/_, _%_}
 use mathlib.Core.Bool.{Bool, true, false, _&&_}
 use mathlib.Core.List.{List}
 use lib.Dec.{leb, ltb, eqb}
@@ -71,10 +70,5 @@ abbrev pub noShape : Shape
 noShape = record { layout = 255; size = 0 }
 
 -- The shape of an SDA by whether it is good.
-abbrev pub shapeIf : Bool → (code : ℕ) → List ℕ → Shape
+unfoldable pub shapeIf : Bool → (code : ℕ) → List ℕ → Shape
 shapeIf good code ps = if good then shapeOf code ps else noShape
-
--- An SDA's shape is that one, and its size fits two bytes.
-pub record Shaped (good : Bool) (code : ℕ) (ps : List ℕ) (x : Shape) : Type 0 where
-  pub same : x ≡ shapeIf good code ps
-  pub small : x .size < 65536

@@ -4,7 +4,7 @@ ghost use Prim.Native.Nat.{_<_};
 ghost use lib.ListN.{length};
 ghost use Rattle.fdoca.specs.FieldType.{typeOf};
 ghost use Rattle.field_types.specs.Rows.{rowOf, RowTable, ruleAt};
-ghost use Rattle.field_types.specs.Parameters.{unusedZero, sizeHeld, lengthAllowed, digitsAllowed, sizeAllowed, ruleAllows, goodEight, noShape, Shaped};
+ghost use Rattle.field_types.specs.Parameters.{unusedZero, sizeHeld, lengthAllowed, digitsAllowed, sizeAllowed, ruleAllows, goodEight, noShape, shapeIf};
 use numbers::pair;
 use numbers::wide;
 
@@ -574,7 +574,7 @@ pub fn no_shape() -> Shape
 // The shape of an SDA whose type parameters are eight bytes that its field type allows, with the size that holds; else `no_shape`.
 pub fn shape_of(rows: &[u8; 256], code: u8, ps: &[u8]) -> Shape
     requires { ⌜ RowTable (now rows) ⌝ }
-    ensures { λ r. ⌜ Shaped (goodEight code (now (ps .entry))) code (now (ps .entry)) r ⌝ }
+    ensures { λ r. ⌜ r ≡ shapeIf (goodEight code (now (ps .entry))) code (now (ps .entry)) ⌝ }
 {
     if ps.len() != 8 {
         return no_shape();

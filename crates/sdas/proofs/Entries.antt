@@ -7,13 +7,14 @@ use native.Mathlib.Nat.{mul-one, zero-mul, mul-le-mul-right}
 use mathlib.Core.Bool.{Bool, true, false, not, _&&_, true≢false}
 use mathlib.Core.List.{List, [], _∷_}
 use mathlib.Core.Option.{Option, none, some}
-use lib.Dec.{leb, eqb, lit≤, lit<}
+use lib.Dec.{leb, ltb, eqb, lit≤, lit<}
 use lib.ListN.{length, getD, set, drop}
 use lib.Seq.{getD-take, getD-drop}
-use borrow.Author.Tests.{ltb-true, leb-true, eqb-false, ne-eqb}
+use borrow.Author.Tests.{ltb-true, leb-true, eqb-true, eqb-false, ne-eqb}
 use mir.Syntax.{w32, w64}
 use mir.Val.{Fits}
-use Rattle.fdoca.specs.Basics.{elem, product}
+use Rattle.fdoca.specs.Basics.{if_then_else_, elem, product}
+use Rattle.fdoca.specs.Packed.{allBelow}
 use Rattle.fdoca.specs.FieldType.{FieldType, fixedBytes, variableBytes, terminatedBytes, shortBytes, integer, reversedInteger, packedDecimal, hexFloat, reversedFloat, binaryFloat, typeOf, Layout, fixed, Size, bytes, digits, inBytes, Sizes, upTo, oneOf, digitsUpTo, allows, ruleOf}
 use Rattle.fdoca.specs.Triplet.{idOf, codeOf, parametersOf, modeOf, sizeIn, extentsOf}
 use Rattle.fdoca.specs.Item.{fieldLength}
@@ -98,41 +99,51 @@ pub digits-way : (layout size : ℕ) → layout ≡ 4 → (4 * (size / 256 % 2 +
 unfolding layoutPart
 digits-way layout size e = (rw e, omega arith)
 
--- where a size is in digits, there are few of them, and the layout is fixed
-abbrev FewDigits : Sizes → Layout → Type 0
-FewDigits (upTo n) l = Unit {0}
-FewDigits (oneOf ns) l = Unit {0}
-FewDigits (digitsUpTo n) l = (n ≤ 18) × (l ≡ fixed)
+-- the sizes of a type are numbers of two bytes; where they are in digits, there are few of them, and the layout is fixed
+abbrev Small : Sizes → Layout → Type 0
+Small (upTo n) l = n < 65536
+Small (oneOf ns) l = allBelow 65536 ns ≡ true
+Small (digitsUpTo n) l = (n ≤ 18) × (l ≡ fixed)
 
-few-digits : (T : FieldType) → FewDigits (ruleOf T .sizes) (ruleOf T .layout)
+small-sizes : (T : FieldType) → Small (ruleOf T .sizes) (ruleOf T .layout)
 unfolding ruleOf
-few-digits fixedBytes = tt
-few-digits variableBytes = tt
-few-digits terminatedBytes = tt
-few-digits shortBytes = tt
-few-digits integer = tt
-few-digits reversedInteger = tt
-few-digits packedDecimal = (lit≤ tt, refl)
-few-digits hexFloat = tt
-few-digits reversedFloat = tt
-few-digits binaryFloat = tt
+small-sizes fixedBytes = lit< tt
+small-sizes variableBytes = lit< tt
+small-sizes terminatedBytes = lit< tt
+small-sizes shortBytes = lit< tt
+small-sizes integer = refl
+small-sizes reversedInteger = refl
+small-sizes packedDecimal = (lit≤ tt, refl)
+small-sizes hexFloat = refl
+small-sizes reversedFloat = refl
+small-sizes binaryFloat = refl
+
+one-below : (F m : ℕ) (ns : List ℕ) → allBelow m ns ≡ true → elem F ns ≡ true → F < m
+one-below F m [] b h = absurd (true≢false (sym h))
+one-below F m (n ∷ ns) b h =
+    go (eqb F n) refl h (λ k. one-below F m ns (and-right (ltb n m) (allBelow m ns) b) k)
+  where
+    go : (x : Bool) → eqb F n ≡ x → (if x then true else elem F ns) ≡ true → (elem F ns ≡ true → F < m) → F < m
+    go true e k ih = rw (eqb-true F n e) (ltb-true n m (and-left (ltb n m) (allBelow m ns) b))
+    go false e k ih = ih k
 
 -- a size's parts of the entry
 record PartsOf (z : Sizes) (l : Layout) (size : Size) : Type 0 where
   length-is : lengthPart (formOf z l) (sizeNumber size) ≡ inBytes size
   layout-is : layoutPart (formOf z l) (sizeNumber size) ≡ prefixOf l + 4 * digitsPart size
   digits-small : digitsPart size < 64
+  number-small : sizeNumber size < 65536
 
-of-bytes : (z : Sizes) (l : Layout) (F : ℕ) → formOf z l ≡ prefixOf l → PartsOf z l (bytes F)
+of-bytes : (z : Sizes) (l : Layout) (F : ℕ) → formOf z l ≡ prefixOf l → F < 65536 → PartsOf z l (bytes F)
 unfolding lengthPart layoutPart digitsPart
-of-bytes z l F e =
+of-bytes z l F e small =
     let n : eqb (prefixOf l) 4 ≡ false = ne-eqb (prefixOf l) 4 (λ q. omega (arith, prefix-below-4 l)) in
-    record { length-is = rw (e, n); layout-is = rw (e, n) (omega arith); digits-small = lit< tt }
+    record { length-is = rw (e, n); layout-is = rw (e, n) (omega arith); digits-small = lit< tt; number-small = small }
 
-parts-of : (z : Sizes) (l : Layout) (size : Size) → FewDigits z l → allows z size ≡ true → PartsOf z l size
+parts-of : (z : Sizes) (l : Layout) (size : Size) → Small z l → allows z size ≡ true → PartsOf z l size
 unfolding formOf prefixOf digitsPart lengthPart layoutPart
-parts-of (upTo n) l (bytes F) k h = of-bytes (upTo n) l F refl
-parts-of (oneOf ns) l (bytes F) k h = of-bytes (oneOf ns) l F refl
+parts-of (upTo n) l (bytes F) k h = of-bytes (upTo n) l F refl (omega (arith, leb-true F n h))
+parts-of (oneOf ns) l (bytes F) k h = of-bytes (oneOf ns) l F refl (one-below F 65536 ns k h)
 parts-of (digitsUpTo n) l (digits p q) k h =
     let low : (leb 1 p && leb p n) ≡ true = and-left (leb 1 p && leb p n) (leb q p) h in
     let a : p ≤ n = leb-true p n (and-right (leb 1 p) (leb p n) low) in
@@ -140,7 +151,7 @@ parts-of (digitsUpTo n) l (digits p q) k h =
     let (m, e) = k in
     let x : (p * 256 + q) / 256 ≡ p = omega arith in
     let y : (p * 256 + q) % 256 ≡ q = omega arith in
-    record { length-is = rw x; layout-is = rw (x, y, e) (omega arith); digits-small = omega arith }
+    record { length-is = rw x; layout-is = rw (x, y, e) (omega arith); digits-small = omega arith; number-small = omega arith }
 parts-of (upTo n) l (digits p q) k h = absurd (true≢false (sym h))
 parts-of (oneOf ns) l (digits p q) k h = absurd (true≢false (sym h))
 parts-of (digitsUpTo n) l (bytes F) k h = absurd (true≢false (sym h))
@@ -149,6 +160,18 @@ parts-of (digitsUpTo n) l (bytes F) k h = absurd (true≢false (sym h))
 mode-read : (t : List ℕ) → 12 ≤ length t → modeOf (parametersOf t) ≡ getD t 9 0
 mode-read t long = getD-take 8 (drop 4 t) 5 0 (omega arith) ∙ getD-drop 4 t 5 0
 
+-- the parts of a good SDA's size
+module _ (t : List ℕ) (good : goodSDA t ≡ true) where
+  field-parts : (T : FieldType) → typeOf (codeOf t) ≡ some T → PartsOf (ruleOf T .sizes) (ruleOf T .layout) (fieldOf T t .size)
+  field-parts T q = parts-of (ruleOf T .sizes) (ruleOf T .layout) (fieldOf T t .size) (small-sizes T) (good-SDA t T q good .allowed)
+
+  shape-size : (T : FieldType) (x : Shape) → typeOf (codeOf t) ≡ some T → x ≡ shapeOf (codeOf t) (parametersOf t) → x .size ≡ sizeNumber (fieldOf T t .size)
+  unfolding shapeOf ruleFor
+  shape-size T x q ex = ap (λ y. y .size) ex ∙ ap (λ o. sizeNumber (sizeIn (ruleFor o) (parametersOf t))) q
+
+  pub size-below : (x : Shape) → x ≡ shapeOf (codeOf t) (parametersOf t) → x .size < 65536
+  size-below x ex = let (T, q) = good-type t good in rw (shape-size T x q ex) (field-parts T q .number-small)
+
 -- the plan's entry, from its parts
 pub entry-way : (t : List ℕ) (x : Shape) (size l m c i n : ℕ) → 12 ≤ length t → goodSDA t ≡ true → x ≡ shapeOf (codeOf t) (parametersOf t) → size ≡ x .size
     → l ≡ layoutPart (x .layout) size → n ≡ lengthPart (x .layout) size → n < 65536
@@ -156,21 +179,18 @@ pub entry-way : (t : List ℕ) (x : Shape) (size l m c i n : ℕ) → 12 ≤ len
 unfolding entryOf shapeOf layoutNumber ruleFor
 entry-way t x size l m c i n long good ex es el en nf em mf ec cf ei ifs = record { same = λ T q. same T q; proper = λ T q z. fits T q z }
   where
-    parts : (T : FieldType) → typeOf (codeOf t) ≡ some T → PartsOf (ruleOf T .sizes) (ruleOf T .layout) (fieldOf T t .size)
-    parts T q = parts-of (ruleOf T .sizes) (ruleOf T .layout) (fieldOf T t .size) (few-digits T) (good-SDA t T q good .allowed)
-
     layout-given : (T : FieldType) → typeOf (codeOf t) ≡ some T → x .layout ≡ formOf (ruleOf T .sizes) (ruleOf T .layout)
     layout-given T q = ap (λ y. y .layout) ex ∙ ap (λ o. formOf (ruleFor o .sizes) (ruleFor o .layout)) q
 
     size-given : (T : FieldType) → typeOf (codeOf t) ≡ some T → size ≡ sizeNumber (fieldOf T t .size)
-    size-given T q = es ∙ ap (λ y. y .size) ex ∙ ap (λ o. sizeNumber (sizeIn (ruleFor o) (parametersOf t))) q
+    size-given T q = es ∙ shape-size t good T x q ex
 
     length-given : (T : FieldType) → typeOf (codeOf t) ≡ some T → n ≡ fieldLength (fieldOf T t)
-    length-given T q = en ∙ rw (layout-given T q, size-given T q) (parts T q .length-is)
+    length-given T q = en ∙ rw (layout-given T q, size-given T q) (field-parts t good T q .length-is)
 
     same : (T : FieldType) → typeOf (codeOf t) ≡ some T → n + 65536 * (i + 256 * (c + 256 * (m + 256 * l))) ≡ entryOf (fieldOf T t)
     same T q =
-        let k : l ≡ prefixOf (ruleOf T .layout) + 4 * digitsPart (fieldOf T t .size) = el ∙ rw (layout-given T q, size-given T q) (parts T q .layout-is) in
+        let k : l ≡ prefixOf (ruleOf T .layout) + 4 * digitsPart (fieldOf T t .size) = el ∙ rw (layout-given T q, size-given T q) (field-parts t good T q .layout-is) in
         rw (mode-read t long, ← em, ← ec, ← ei, ← length-given T q, ← k)
 
     fits : (T : FieldType) → typeOf (codeOf t) ≡ some T → (idOf t ≡ 0 → ⊥) → Proper (fieldOf T t)
@@ -181,7 +201,7 @@ entry-way t x size l m c i n long good ex es el en nf em mf ec cf ei ifs = recor
           id-given = omega (arith, h);
           code-fits = omega arith;
           mode-fits = rw (mode-read t long) (omega arith);
-          digits-fit = parts T q .digits-small;
+          digits-fit = field-parts t good T q .digits-small;
         }
 
 pub put-way : (t s z e : List ℕ) (p i count lower entry : ℕ) → i ≡ getD t 2 0 → i < 256 → lower ≡ lowerOf (extentsOf t) → count ≡ product (extentsOf t)

@@ -1,6 +1,6 @@
 -- An SDA's bytes: its LENGTH, its extents and their product, and what makes its parameters good.
 -- Assumes nothing.
-use mathlib.Core.Path.{_≡_, refl, sym, subst, _∙_}
+use mathlib.Core.Path.{_≡_, refl, sym, ap, _∙_}
 use mathlib.Core.Logic.{_≢_}
 use Prim.Native.Nat.{ℕ, zero, suc, _+_, _*_, _≤_, _<_}
 use native.Mathlib.Omega.{arith}
@@ -19,8 +19,8 @@ use Rattle.fdoca.specs.Triplet.{pairs, extentsOf, idOf, codeOf, parametersOf}
 use Rattle.fdoca.specs.FieldType.{typeOf}
 use Rattle.fdoca.specs.Check.{Entry, isDescribed, goodLengthSDA, goodType, goodSDA, checkSDA}
 use Rattle.field_types.specs.declared.Shape.{Shape}
-use Rattle.field_types.specs.Parameters.{goodEight, noShape, Shaped}
-use Rattle.field_types.proofs.Allowed.{good-eight, shape-none, shape-some}
+use Rattle.field_types.specs.Parameters.{goodEight, noShape, shapeIf}
+use Rattle.field_types.proofs.Allowed.{good-eight, shape-none, shape-some, shape-is}
 use Rattle.sdas.specs.declared.Judged.{Judged}
 use Rattle.sdas.specs.Tables.{Agrees}
 use Rattle.sdas.specs.Judged.{extentOr1, described, JudgedSDA}
@@ -124,11 +124,11 @@ module _ (t : List ℕ) where
   bad-extents n c z = rw (no-zero (extentsOf t), ← c, z) (and-false (not (eqb (idOf t) 0) && goodType (typeOf (codeOf t)) (parametersOf t)))
 
   pub good-rest : (n : ℕ) (x : Shape) → goodLengthSDA t ≡ true → (getD t 2 0 ≡ 0 → ⊥) → n ≡ product (extentsOf t) → (n ≡ 0 → ⊥)
-      → Shaped (goodEight (getD t 3 0) (parametersOf t)) (getD t 3 0) (parametersOf t) x → Shaped (goodSDA t) (codeOf t) (parametersOf t) x
+      → x ≡ shapeIf (goodEight (getD t 3 0) (parametersOf t)) (getD t 3 0) (parametersOf t) → x ≡ shapeIf (goodSDA t) (codeOf t) (parametersOf t)
   good-rest n x l i c z e =
       let g : goodEight (getD t 3 0) (parametersOf t) ≡ goodType (typeOf (codeOf t)) (parametersOf t) = good-eight (getD t 3 0) (parametersOf t) (parameters-length t (at-least-12 t l)) in
       let p : not (elem 0 (extentsOf t)) ≡ true = no-zero (extentsOf t) ∙ rw (← c) (lt-ltb 0 n (omega (arith, z))) in
-      subst (λ b. Shaped b (codeOf t) (parametersOf t) x) (simp (ne-eqb (getD t 2 0) 0 i, p, g, and-true)) e
+      e ∙ ap (λ b. shapeIf b (codeOf t) (parametersOf t)) (simp (ne-eqb (getD t 2 0) 0 i, p, g, and-true))
 
 -- a refusal has no shape
 pub refused-is : (n : ℕ) (x : Shape) (r : Judged) → x ≡ noShape → r ≡ record { number = n; shape = x; count = 0 } → r ≡ record { number = n; shape = noShape; count = 0 }
@@ -148,7 +148,6 @@ module _ (t s : List ℕ) (r : Judged) where
         length-good = λ q. absurd (not-0 q);
         good = λ q. absurd (not-0 q);
         small = rw e (omega arith);
-        size-small = rw e (omega arith);
       }
     where
       not-0 : r .number ≡ 0 → ⊥
@@ -158,7 +157,7 @@ module _ (t s : List ℕ) (r : Judged) where
   unfolding checkSDA
   sda-bad-length a e h f = refused-by 5 (λ q. omega arith) e (λ p z es k. rw (← h, f))
 
-  module _ (a : Bool) (x : Shape) (h : a ≡ goodLengthSDA t) (f : a ≡ true) (g : Shaped (goodSDA t) (codeOf t) (parametersOf t) x) where
+  module _ (a : Bool) (x : Shape) (h : a ≡ goodLengthSDA t) (f : a ≡ true) (g : x ≡ shapeIf (goodSDA t) (codeOf t) (parametersOf t)) where
     pub sda-bad : r ≡ record { number = 6; shape = noShape; count = 0 } → x .layout ≡ 255 → JudgedSDA t s r
     unfolding checkSDA
     sda-bad e n = refused-by 6 (λ q. omega arith) e (λ p z es k. rw (← h, f, shape-none (codeOf t) (parametersOf t) x (goodSDA t) g n))
@@ -191,13 +190,12 @@ module _ (t s : List ℕ) (r : Judged) where
               result = λ p z es w.
                   rw (← h, f, good, new z es w, ← m, le-ltb 4096 count k, e) (found-outcome 0 p (described (idOf t) (extentsOf t) es) refl);
               count = λ q. rw e m;
-              shape = λ q. rw e (rw good at (g .same));
+              shape = λ q. rw e (shape-is (codeOf t) (parametersOf t) x (goodSDA t) g good);
               no-count = λ q. absurd (q (rw e));
               no-shape = λ q. absurd (q (rw e));
               length-good = λ q. sym h ∙ f;
               good = λ q. good;
               small = rw e k;
-              size-small = rw e (g .small);
             }
 
 -- an SDA of good length has its first 12 bytes

@@ -1,5 +1,5 @@
 -- What judging an SDA gives.
-use Prim.Native.Nat.{ℕ, _+_, _≤_, _<_}
+use Prim.Native.Nat.{ℕ, _+_, _≤_}
 use mathlib.Core.Path.{_≡_}
 use mathlib.Core.Logic.{_≢_}
 use mathlib.Core.Bool.{true}
@@ -33,4 +33,3 @@ pub record JudgedSDA (t s : List ℕ) (r : Judged) : Type 0 where
   pub length-good : r .number ≡ 0 → goodLengthSDA t ≡ true
   pub good : r .number ≡ 0 → goodSDA t ≡ true
   pub small : r .count ≤ 4096
-  pub size-small : r .shape .size < 65536

@@ -6,7 +6,7 @@ ghost use Rattle.fdoca.specs.Triplet.{codeOf, parametersOf, extentsOf};
 ghost use Rattle.fdoca.specs.Basics.{product};
 ghost use Rattle.fdoca.specs.Check.{goodLengthSDA, goodSDA};
 ghost use Rattle.field_types.specs.Rows.{RowTable};
-ghost use Rattle.field_types.specs.Parameters.{shapeOf, noShape, Shaped};
+ghost use Rattle.field_types.specs.Parameters.{shapeOf, noShape, shapeIf};
 ghost use Rattle.plans.specs.Tied.{lowerOf};
 ghost use Rattle.sdas.specs.Judged.{extentOr1, JudgedSDA};
 ghost use Rattle.sdas.specs.Kept.{lengthPart, layoutPart, EntryOf, PutSDA};
@@ -86,7 +86,7 @@ fn item_count(t: &[u8]) -> usize
 // The shape of an SDA whose id, type, parameters and extents are good, else `no_shape`.
 fn sda_shape(t: &[u8], rows: &[u8; 256]) -> Shape
     requires { ⌜ RowTable (now rows) × (goodLengthSDA (now t) ≡ true) ⌝ }
-    ensures { λ r. ⌜ Shaped (goodSDA (now (t .entry))) (codeOf (now (t .entry))) (parametersOf (now (t .entry))) r ⌝ }
+    ensures { λ r. ⌜ r ≡ shapeIf (goodSDA (now (t .entry))) (codeOf (now (t .entry))) (parametersOf (now (t .entry))) ⌝ }
 {
     if t[2] == 0 {
         return field_types::no_shape();
@@ -137,7 +137,6 @@ fn length_part(layout: u8, size: u64) -> u64
 
 // The layout's number in a plan, and of digits whether they are odd in number, and the fraction digits.
 fn layout_part(layout: u8, size: u64) -> u64
-    requires { ⌜ size < 65536 ⌝ }
     ensures { λ r. ⌜ (r ≡ layoutPart layout size) × (r < 4096) ⌝ }
 {
     if layout == field_types::DIGITS {
@@ -148,7 +147,7 @@ fn layout_part(layout: u8, size: u64) -> u64
 
 // The plan's entry for an SDA's field.
 fn plan_entry(t: &[u8], shape: Shape) -> u64
-    requires { ⌜ (goodLengthSDA (now t) ≡ true) × (goodSDA (now t) ≡ true) × (shape ≡ shapeOf (codeOf (now t)) (parametersOf (now t))) × (shape .size < 65536) ⌝ }
+    requires { ⌜ (goodLengthSDA (now t) ≡ true) × (goodSDA (now t) ≡ true) × (shape ≡ shapeOf (codeOf (now t)) (parametersOf (now t))) ⌝ }
     ensures { λ r. ⌜ EntryOf (now (t .entry)) r ⌝ }
 {
     let size = shape.size as u64;
@@ -178,7 +177,7 @@ pub fn put_sda(
     sizes: &mut [u32; 256],
     entries: &mut [u64; 256],
 )
-    requires { ⌜ (goodLengthSDA (now t) ≡ true) × (goodSDA (now t) ≡ true) × (p < 4096) × (judged .count ≡ product (extentsOf (now t))) × (judged .count ≤ 4096) × (judged .shape ≡ shapeOf (codeOf (now t)) (parametersOf (now t))) × (judged .shape .size < 65536) ⌝ }
+    requires { ⌜ (goodLengthSDA (now t) ≡ true) × (goodSDA (now t) ≡ true) × (p < 4096) × (judged .count ≡ product (extentsOf (now t))) × (judged .count ≤ 4096) × (judged .shape ≡ shapeOf (codeOf (now t)) (parametersOf (now t))) ⌝ }
     ensures { λ _. ⌜ PutSDA (now (t .entry)) p (now (starts .entry)) (now (sizes .entry)) (now (entries .entry)) (now (starts .exit)) (now (sizes .exit)) (now (entries .exit)) ⌝ }
 {
     let id = numbers::wide(t[2]);

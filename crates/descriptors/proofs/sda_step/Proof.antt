@@ -1,4 +1,4 @@
-use Rattle.descriptors.proofs.Stepping.{sda-refused, judged-length, judged-good, judged-count, judged-shape, judged-size, judged-id, sda-put}
+use Rattle.descriptors.proofs.Stepping.{sda-refused, judged-length, judged-good, judged-count, judged-shape, judged-id, sda-put}
 use borrow.Author.Needs.{needs}
 use Rattle.descriptors.proofs.sda_step.Statement.{statement}
 use Rattle.descriptors.proofs.sda_step.Tie as tie
@@ -13,7 +13,7 @@ returns : tie.Need-returns
 returns c = search (sda-refused)
 
 put-sda-requires : tie.Need-put-sda-requires
-put-sda-requires c κs = search (needs, judged-length, judged-good, judged-count, judged-shape, judged-size)
+put-sda-requires c κs = search (needs, judged-length, judged-good, judged-count, judged-shape)
 
 shared-slice-read-t15 : tie.Need-shared-slice-read-t15
 shared-slice-read-t15 c = search (judged-id)

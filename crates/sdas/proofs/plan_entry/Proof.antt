@@ -1,5 +1,5 @@
 use Rattle.sdas.proofs.Sda.{at-least-12, has}
-use Rattle.sdas.proofs.Entries.{entry-way}
+use Rattle.sdas.proofs.Entries.{size-below, entry-way}
 use borrow.Author.Needs.{needs}
 use Rattle.sdas.proofs.plan_entry.Statement.{statement}
 use Rattle.sdas.proofs.plan_entry.Tie as tie
@@ -44,7 +44,7 @@ add-id : tie.Need-add-id
 add-id c = search needs
 
 length-part-requires : tie.Need-length-part-requires
-length-part-requires c κs = search needs
+length-part-requires c κs = search (needs, size-below)
 
 mul-result : tie.Need-mul-result
 mul-result c = search needs
