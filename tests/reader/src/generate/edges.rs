@@ -112,7 +112,7 @@ fn sdas(codes: impl IntoIterator<Item = u8>, lengths: &[u16]) -> Vec<Vec<u8>> {
         .collect()
 }
 
-/// The other type parameters of a field of four bytes.
+/// Type parameters before the size, of a field of four bytes.
 fn parameters() -> Vec<Vec<u8>> {
     plain_types()
         .flat_map(|code| changed_parameters(code, four_bytes(code)))

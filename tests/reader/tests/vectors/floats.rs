@@ -60,7 +60,7 @@ fn items_have_the_listed_lengths() {
 }
 
 #[test]
-fn nulls_have_none_of_the_listed_lengths() {
+fn nulls_are_one_byte_and_refusals_stand() {
     for (mut sda, answer) in listed() {
         let null = match answer {
             Answer::Length(_) => Answer::Null,
@@ -150,7 +150,8 @@ fn assert_list(name: &str, descriptor: &[u8], data: &[u8], items: &[Item]) {
     assert_eq!(entries, expected, "{name}");
 }
 
-/// Asserts the state and the part of an item that is no number.
+/// Asserts the state and the part of an item that is neither a whole number nor a packed
+/// decimal.
 fn assert_value(name: &str, descriptor: &[u8], data: &[u8], number: u32, item: &Item) {
     let value = item.value().unwrap_or_default();
     let expected = State {
