@@ -225,30 +225,30 @@ module _ (d s : List ℕ) (n : ℕ) (accepts : check d ≡ ok n) (few : length s
 
 -- The size of an SDA's field (Q-2) is the one that its parameters give where 01's table allows that,
 module _ (t : List ℕ) where
-  abbrev sixth : ℕ
-  sixth = byte (parametersOf t) 6
+  abbrev byte6 : ℕ
+  byte6 = byte (parametersOf t) 6
 
-  abbrev seventh : ℕ
-  seventh = byte (parametersOf t) 7
+  abbrev byte7 : ℕ
+  byte7 = byte (parametersOf t) 7
 
   module _ (T : FieldType) (typed : typeOf (codeOf t) ≡ some T) where
-    pub given-holds : (bias mode : ℕ) → Allowed (codeOf t) bias mode sixth seventh → fieldOf T t .size ≡ sizeOf (ruleOf T .sizes) sixth seventh
-    given-holds bias mode h = size-given (codeOf t) T typed sixth seventh bias mode h
+    pub given-holds : (bias mode : ℕ) → Allowed (codeOf t) bias mode byte6 byte7 → fieldOf T t .size ≡ sizeOf (ruleOf T .sizes) byte6 byte7
+    given-holds bias mode h = size-given (codeOf t) T typed byte6 byte7 bias mode h
 
     -- the default of the type where Q-2 puts one in,
-    pub default-holds : (n : ℕ) → Means (codeOf t) sixth seventh n → fieldOf T t .size ≡ bytes n
-    default-holds n h = size-default T sixth seventh (codeOf t) n (code-of-type (codeOf t) T typed) h .0
+    pub default-holds : (n : ℕ) → Means (codeOf t) byte6 byte7 n → fieldOf T t .size ≡ bytes n
+    default-holds n h = size-default T byte6 byte7 (codeOf t) n (code-of-type (codeOf t) T typed) h .0
 
   -- and where there is neither, the SDA is refused with 6;
   module _ (es : List (ℕ × Entry)) (p : ℕ) (l : goodLengthSDA t ≡ true) where
-    pub else-6 : ((bias mode : ℕ) → Allowed (codeOf t) bias mode sixth seventh → ⊥) → ((n : ℕ) → Means (codeOf t) sixth seventh n → ⊥)
+    pub else-6 : ((bias mode : ℕ) → Allowed (codeOf t) bias mode byte6 byte7 → ⊥) → ((n : ℕ) → Means (codeOf t) byte6 byte7 n → ⊥)
         → checkSDA es p t ≡ refuse 6 p
     unfolding checkSDA
     else-6 no-given none-put-in = rw (l, bad-type t (size-else (codeOf t) (parametersOf t) no-given none-put-in))
 
     -- so a binary float of 16 bytes is.
-    pub sixteen-6 : OneOf (codeOf t) (0x47 ∷ 0x48 ∷ 0xC7 ∷ 0xC8 ∷ []) → F sixth seventh ≡ 16 → checkSDA es p t ≡ refuse 6 p
-    sixteen-6 c e = else-6 (no-sixteen sixth seventh e (codeOf t) c) (sixteen-kept sixth seventh e (codeOf t))
+    pub sixteen-6 : OneOf (codeOf t) (0x47 ∷ 0x48 ∷ 0xC7 ∷ 0xC8 ∷ []) → F byte6 byte7 ≡ 16 → checkSDA es p t ≡ refuse 6 p
+    sixteen-6 c e = else-6 (no-sixteen byte6 byte7 e (codeOf t) c) (sixteen-kept byte6 byte7 e (codeOf t))
 
 -- No field of an accepted descriptor has a size that 01's table does not allow for its code, whatever the bias indicator, of which 0 is always allowed.
 pub lengths-allowed : (d : List ℕ) (n : ℕ) → check d ≡ ok n → (before : List Field) (f : Field) (after : List Field) → unfolded d ≡ before ++ (f ∷ after)

@@ -206,18 +206,18 @@ modes-known d n e before f after k = go (f .mode) (mode-known (good-at before f 
     go (suc m) h = inr (omega arith)
 
 -- an allowed size is what two numbers give in place of the bytes
-two-bytes : (z : Sizes) (size : Size) → allows z size ≡ true → (a b : ℕ) × (size ≡ sizeOf z a b)
-two-bytes (upTo n) (bytes G) h = (G / 256, G % 256, ap bytes (omega arith))
-two-bytes (oneOf ns) (bytes G) h = (G / 256, G % 256, ap bytes (omega arith))
-two-bytes (digitsUpTo n) (digits p q) h = (p, q, refl)
-two-bytes (upTo n) (digits p q) h = absurd (true≢false (sym h))
-two-bytes (oneOf ns) (digits p q) h = absurd (true≢false (sym h))
-two-bytes (digitsUpTo n) (bytes G) h = absurd (true≢false (sym h))
+two-numbers : (z : Sizes) (size : Size) → allows z size ≡ true → (a b : ℕ) × (size ≡ sizeOf z a b)
+two-numbers (upTo n) (bytes G) h = (G / 256, G % 256, ap bytes (omega arith))
+two-numbers (oneOf ns) (bytes G) h = (G / 256, G % 256, ap bytes (omega arith))
+two-numbers (digitsUpTo n) (digits p q) h = (p, q, refl)
+two-numbers (upTo n) (digits p q) h = absurd (true≢false (sym h))
+two-numbers (oneOf ns) (digits p q) h = absurd (true≢false (sym h))
+two-numbers (digitsUpTo n) (bytes G) h = absurd (true≢false (sym h))
 
 -- 01's table allows the mode and the size of each field of an accepted descriptor.
 pub field-allowed : (f : Field) → GoodField f → (a b : ℕ) × Allowed (f .code) 0 (f .mode) a b × (f .size ≡ sizeOf (ruleOf (f .type) .sizes) a b)
 field-allowed f g =
-    let (a, b, e) = two-bytes (ruleOf (f .type) .sizes) (f .size) (g .allowed) in
+    let (a, b, e) = two-numbers (ruleOf (f .type) .sizes) (f .size) (g .allowed) in
     (a, b, rule-allows (f .code) 0 (f .mode) a b (f .type) (g .typed) (omega arith) (g .mode-allowed) (rw e at (g .allowed)), e)
 
 -- a value of fixed length has the field length; a null has none
