@@ -16,13 +16,13 @@ use mir.ValLaws.{toZ-ofZ}
 use borrow.Author.Tests.{leb-true}
 use Rattle.fdoca.specs.declared.Decimal.{Decimal}
 use Rattle.fdoca.specs.Basics.{if_then_else_, Result, refuse, ok, _>>=_, the}
-use Rattle.fdoca.specs.FieldType.{FieldType, fixedBytes, variableBytes, terminatedBytes, shortBytes, integer, reversedInteger, packedDecimal, hexFloat, reversedFloat, binaryFloat, Size, bytes, digits, fixed, typeOf, ruleOf}
+use Rattle.fdoca.specs.FieldType.{packedDecimal, plain, Size, bytes, digits, fixed, ruleOf}
 use Rattle.fdoca.specs.Walk.{Note}
 use Rattle.fdoca.specs.Packed.{packedNumber}
 use Rattle.fdoca.specs.Calls.{itemAt, valueOf, digitsOf, packed, decimalAnswer}
 use Rattle.fdoca.proofs.Tests.{and-left, and-right}
+use Rattle.fdoca.proofs.TypeRows.{plainCode, same-plain}
 use Rattle.fdoca.proofs.Fields.{digits-packed, packed-digits}
-use Rattle.field_types.specs.Rows.{rowOf}
 use Rattle.numbers.specs.declared.Unpacked.{Unpacked}
 use Rattle.numbers.specs.Packed.{unpacked}
 use Rattle.plans.specs.Plan.{digitsPart}
@@ -30,21 +30,7 @@ use Rattle.walks.specs.declared.Found.{Found}
 use Rattle.walks.specs.Finding.{foundOf}
 use Rattle.lookups.specs.Answer.{FoundAs}
 use Rattle.blocks.specs.Packing.{digitsIn, Packing, numbered, readAt}
-use Rattle.blocks.proofs.Items.{TheItem, the-item, type-row}
-
--- row 7 is the packed decimals'
-row-7 : (T : FieldType) → rowOf (some T) ≡ 7 → T ≡ packedDecimal
-unfolding rowOf
-row-7 packedDecimal h = refl
-row-7 fixedBytes h = absurd (let w : ⊥ = omega arith in w)
-row-7 variableBytes h = absurd (let w : ⊥ = omega arith in w)
-row-7 terminatedBytes h = absurd (let w : ⊥ = omega arith in w)
-row-7 shortBytes h = absurd (let w : ⊥ = omega arith in w)
-row-7 integer h = absurd (let w : ⊥ = omega arith in w)
-row-7 reversedInteger h = absurd (let w : ⊥ = omega arith in w)
-row-7 hexFloat h = absurd (let w : ⊥ = omega arith in w)
-row-7 reversedFloat h = absurd (let w : ⊥ = omega arith in w)
-row-7 binaryFloat h = absurd (let w : ⊥ = omega arith in w)
+use Rattle.blocks.proofs.Items.{TheItem, the-item, plain-is}
 
 module _ (d x : List ℕ) (i : ℕ) (f : Found) (w : FoundAs (itemAt d x i) x f) where
   -- what the read gives, by the item's note
@@ -61,7 +47,7 @@ module _ (d x : List ℕ) (i : ℕ) (f : Found) (w : FoundAs (itemAt d x i) x f)
       go (refuse n p) e = q ∙ rw e
       go (ok n) e = absurd (h (rw e))
 
-  module _ (h : f .number ≡ 0) (row : ℕ) (er : row ≡ rowOf (typeOf (f .entry / 16777216 % 256))) where
+  module _ (h : f .number ≡ 0) (c : ℕ) (ec : c ≡ plain (f .entry / 16777216 % 256)) where
     abbrev t : TheItem d x i f
     t = the-item d x i f w h
 
@@ -69,20 +55,19 @@ module _ (d x : List ℕ) (i : ℕ) (f : Found) (w : FoundAs (itemAt d x i) x f)
     unfolding packed
     by-note = rw (t .is-item)
 
-    row-is : row ≡ rowOf (some (t .note .field .type))
-    row-is = type-row d x i f w h row er
+    code-is : c ≡ plainCode (t .note .field .type)
+    code-is = plain-is d x i f w h c ec
 
-    pub packed-other : (r : Decimal) → (row ≡ 7 → ⊥) → r ≡ decimalAnswer (refuse 18 (f .start)) → r ≡ decimalAnswer (packed d x i)
-    unfolding rowOf
+    pub packed-other : (r : Decimal) → (c ≡ 0x30 → ⊥) → r ≡ decimalAnswer (refuse 18 (f .start)) → r ≡ decimalAnswer (packed d x i)
     packed-other r n q = q ∙ rw (t .start-is, by-note) (go (t .note .field .size) refl)
       where
         go : (z : Size) → t .note .field .size ≡ z → decimalAnswer (refuse 18 (t .note .start)) ≡ decimalAnswer (the (digitsOf z) 18 (t .note .start) >>= (λ p. the (if t .note .isNull then some (pos 0) else packedNumber (p .0) (valueOf x (t .note))) 20 (t .note .start) >>= (λ z. ok (t .note .isNull, z, p .1))))
         go (bytes F) e = refl
-        go (digits p q) e = absurd (n (row-is ∙ ap (λ T. rowOf (some T)) (digits-packed (t .note .field) (t .good .field-good) p q e)))
+        go (digits p q) e = absurd (n (code-is ∙ ap plainCode (digits-packed (t .note .field) (t .good .field-good) p q e)))
 
-    module _ (is-packed : row ≡ 7) where
+    module _ (is-packed : c ≡ 0x30) where
       type-is : t .note .field .type ≡ packedDecimal
-      type-is = row-7 (t .note .field .type) (sym row-is ∙ is-packed)
+      type-is = same-plain (t .note .field .type) packedDecimal (sym code-is ∙ is-packed)
 
       -- the digits of the field, and what the entry tells of them
       record Sized : Type 0 where

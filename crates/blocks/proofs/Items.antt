@@ -4,16 +4,15 @@ use mathlib.Core.Path.{_≡_, refl, ap, _∙_}
 use Prim.Native.Nat.{ℕ, _+_, _/_, _%_}
 use native.Mathlib.Omega.{arith}
 use mathlib.Core.List.{List}
-use mathlib.Core.Option.{some}
 use lib.ListN.{take, drop}
 use Rattle.fdoca.specs.declared.State.{State}
 use Rattle.fdoca.specs.Basics.{Result, refuse, ok}
-use Rattle.fdoca.specs.FieldType.{typeOf}
+use Rattle.fdoca.specs.FieldType.{plain}
 use Rattle.fdoca.specs.Walk.{Note}
 use Rattle.fdoca.specs.Calls.{itemAt, valueOf, stateOf}
+use Rattle.fdoca.proofs.TypeRows.{plainCode, type-plain}
 use Rattle.fdoca.proofs.Fields.{GoodNote, item-good}
 use Rattle.fdoca.proofs.Numbers.{item-number}
-use Rattle.field_types.specs.Rows.{rowOf}
 use Rattle.plans.specs.Plan.{digitsPart}
 use Rattle.walks.specs.declared.Found.{Found}
 use Rattle.walks.specs.Finding.{foundOf}
@@ -51,7 +50,7 @@ module _ (d x : List ℕ) (i : ℕ) (f : Found) where
             good = item-good d x i n e;
           }
 
-  -- the row of its type code is that of its type
-  pub type-row : (w : FoundAs (itemAt d x i) x f) (h : f .number ≡ 0) (row : ℕ) → row ≡ rowOf (typeOf (f .entry / 16777216 % 256))
-      → row ≡ rowOf (some (the-item w h .note .field .type))
-  type-row w h row e = let t = the-item w h in e ∙ ap (λ c. rowOf (typeOf c)) (t .code-is) ∙ ap rowOf (t .good .field-good .typed)
+  -- the plain code of its type code is that of its type
+  pub plain-is : (w : FoundAs (itemAt d x i) x f) (h : f .number ≡ 0) (c : ℕ) → c ≡ plain (f .entry / 16777216 % 256)
+      → c ≡ plainCode (the-item w h .note .field .type)
+  plain-is w h c e = let t = the-item w h in e ∙ ap plain (t .code-is) ∙ type-plain (t .note .field .code) (t .note .field .type) (t .good .field-good .typed)

@@ -16,16 +16,16 @@ use mir.ValLaws.{toZ-ofZ}
 use borrow.Author.Tests.{eqb-true}
 use Rattle.fdoca.specs.declared.Whole.{Whole}
 use Rattle.fdoca.specs.Basics.{if_then_else_, Result, refuse, ok, _>>=_, the}
-use Rattle.fdoca.specs.FieldType.{FieldType, fixedBytes, variableBytes, terminatedBytes, shortBytes, integer, reversedInteger, packedDecimal, hexFloat, reversedFloat, binaryFloat, Size, bytes, digits, inBytes, fixed, oneOf, allows, typeOf, ruleOf}
+use Rattle.fdoca.specs.FieldType.{FieldType, fixedBytes, variableBytes, terminatedBytes, shortBytes, integer, reversedInteger, packedDecimal, hexFloat, reversedFloat, binaryFloat, Size, bytes, digits, inBytes, fixed, oneOf, plain, allows, ruleOf}
 use Rattle.fdoca.specs.Walk.{Note}
 use Rattle.fdoca.specs.Calls.{itemAt, valueOf, wholeOf, wholeNumber, wholeAnswer}
-use Rattle.field_types.specs.Rows.{rowOf}
+use Rattle.fdoca.proofs.TypeRows.{plainCode}
 use Rattle.numbers.specs.Whole.{wholeUpTo8}
 use Rattle.numbers.proofs.Whole.{read-integer, read-reversed}
 use Rattle.walks.specs.declared.Found.{Found}
 use Rattle.walks.specs.Finding.{foundOf}
 use Rattle.lookups.specs.Answer.{FoundAs}
-use Rattle.blocks.proofs.Items.{TheItem, the-item, type-row}
+use Rattle.blocks.proofs.Items.{TheItem, the-item, plain-is}
 
 abbrev wholly : ℤ → Whole
 wholly z = record { number = 0; place = 0; null = false; value = z }
@@ -41,48 +41,34 @@ eight (bytes F) h = go (eqb F 2) (eqb F 4) (eqb F 8) refl refl refl h
     go false false true ea eb ec h = let q : F ≡ 8 = eqb-true F 8 ec in omega arith
     go false false false ea eb ec h = absurd (true≢false (sym h))
 
--- a type by its row
-module _ (bs : List ℕ) where
-  low-row : (T : FieldType) → rowOf (some T) < 5 → wholeOf T bs ≡ none
-  unfolding rowOf wholeOf
-  low-row fixedBytes h = refl
-  low-row variableBytes h = refl
-  low-row terminatedBytes h = refl
-  low-row shortBytes h = refl
-  low-row integer h = absurd (let w : ⊥ = omega arith in w)
-  low-row reversedInteger h = absurd (let w : ⊥ = omega arith in w)
-  low-row packedDecimal h = refl
-  low-row hexFloat h = refl
-  low-row reversedFloat h = refl
-  low-row binaryFloat h = refl
+-- the types that have no whole number
+not-whole : (T : FieldType) (bs : List ℕ) → (plainCode T ≡ 0x23 → ⊥) → (plainCode T ≡ 0x24 → ⊥) → wholeOf T bs ≡ none
+unfolding wholeOf
+not-whole fixedBytes bs n r = refl
+not-whole variableBytes bs n r = refl
+not-whole terminatedBytes bs n r = refl
+not-whole shortBytes bs n r = refl
+not-whole integer bs n r = absurd (n refl)
+not-whole reversedInteger bs n r = absurd (r refl)
+not-whole packedDecimal bs n r = refl
+not-whole hexFloat bs n r = refl
+not-whole reversedFloat bs n r = refl
+not-whole binaryFloat bs n r = refl
 
-  high-row : (T : FieldType) → 6 < rowOf (some T) → wholeOf T bs ≡ none
-  unfolding rowOf wholeOf
-  high-row fixedBytes h = refl
-  high-row variableBytes h = refl
-  high-row terminatedBytes h = refl
-  high-row shortBytes h = refl
-  high-row integer h = absurd (let w : ⊥ = omega arith in w)
-  high-row reversedInteger h = absurd (let w : ⊥ = omega arith in w)
-  high-row packedDecimal h = refl
-  high-row hexFloat h = refl
-  high-row reversedFloat h = refl
-  high-row binaryFloat h = refl
-
--- a whole number of up to eight bytes is what its row says
-whole-row : (T : FieldType) (F : Size) (bs : List ℕ) → 5 ≤ rowOf (some T) → rowOf (some T) ≤ 6 → allows (ruleOf T .sizes) F ≡ true
-    → (ruleOf T .layout ≡ fixed → length bs ≤ inBytes F) → wholeOf T bs ≡ some (wholeUpTo8 bs (eqb (rowOf (some T)) 6))
-unfolding rowOf ruleOf
-whole-row integer F bs l h a n = let k : length bs ≤ 8 = omega (arith, eight F a, n refl) in read-integer bs k
-whole-row reversedInteger F bs l h a n = let k : length bs ≤ 8 = omega (arith, eight F a, n refl) in read-reversed bs k
-whole-row fixedBytes F bs l h a n = absurd (let w : ⊥ = omega arith in w)
-whole-row variableBytes F bs l h a n = absurd (let w : ⊥ = omega arith in w)
-whole-row terminatedBytes F bs l h a n = absurd (let w : ⊥ = omega arith in w)
-whole-row shortBytes F bs l h a n = absurd (let w : ⊥ = omega arith in w)
-whole-row packedDecimal F bs l h a n = absurd (let w : ⊥ = omega arith in w)
-whole-row hexFloat F bs l h a n = absurd (let w : ⊥ = omega arith in w)
-whole-row reversedFloat F bs l h a n = absurd (let w : ⊥ = omega arith in w)
-whole-row binaryFloat F bs l h a n = absurd (let w : ⊥ = omega arith in w)
+-- a whole number of up to eight bytes is what its plain code says
+whole-code : (T : FieldType) (F : Size) (bs : List ℕ) → 0x23 ≤ plainCode T → plainCode T ≤ 0x24 → allows (ruleOf T .sizes) F ≡ true
+    → (ruleOf T .layout ≡ fixed → length bs ≤ inBytes F) → wholeOf T bs ≡ some (wholeUpTo8 bs (eqb (plainCode T) 0x24))
+unfolding ruleOf
+whole-code integer F bs l h a n = let k : length bs ≤ 8 = omega (arith, eight F a, n refl) in read-integer bs k
+whole-code reversedInteger F bs l h a n = let k : length bs ≤ 8 = omega (arith, eight F a, n refl) in read-reversed bs k
+whole-code fixedBytes F bs l h a n = absurd (let w : ⊥ = omega arith in w)
+whole-code variableBytes F bs l h a n = absurd (let w : ⊥ = omega arith in w)
+whole-code terminatedBytes F bs l h a n = absurd (let w : ⊥ = omega arith in w)
+whole-code shortBytes F bs l h a n = absurd (let w : ⊥ = omega arith in w)
+whole-code packedDecimal F bs l h a n = absurd (let w : ⊥ = omega arith in w)
+whole-code hexFloat F bs l h a n = absurd (let w : ⊥ = omega arith in w)
+whole-code reversedFloat F bs l h a n = absurd (let w : ⊥ = omega arith in w)
+whole-code binaryFloat F bs l h a n = absurd (let w : ⊥ = omega arith in w)
 
 module _ (d x : List ℕ) (i : ℕ) (f : Found) (w : FoundAs (itemAt d x i) x f) where
   pub whole-refused : (f .number ≡ 0 → ⊥) → record { number = f .number; place = f .place; null = false; value = pos 0 } ≡ wholeAnswer (wholeNumber d x i)
@@ -94,12 +80,12 @@ module _ (d x : List ℕ) (i : ℕ) (f : Found) (w : FoundAs (itemAt d x i) x f)
       go (refuse n p) e = rw e
       go (ok n) e = absurd (h (rw e))
 
-  module _ (h : f .number ≡ 0) (row : ℕ) (er : row ≡ rowOf (typeOf (f .entry / 16777216 % 256))) where
+  module _ (h : f .number ≡ 0) (c : ℕ) (ec : c ≡ plain (f .entry / 16777216 % 256)) where
     abbrev t : TheItem d x i f
     t = the-item d x i f w h
 
-    row-is : row ≡ rowOf (some (t .note .field .type))
-    row-is = type-row d x i f w h row er
+    code-is : c ≡ plainCode (t .note .field .type)
+    code-is = plain-is d x i f w h c ec
 
     not-one : (r : Whole) → wholeOf (t .note .field .type) (valueOf x (t .note)) ≡ none → r ≡ wholeAnswer (refuse 18 (f .start)) → r ≡ wholeAnswer (wholeNumber d x i)
     unfolding wholeNumber
@@ -107,17 +93,17 @@ module _ (d x : List ℕ) (i : ℕ) (f : Found) (w : FoundAs (itemAt d x i) x f)
         let k : wholeAnswer (refuse 18 (t .note .start)) ≡ wholeAnswer (wholeNumber d x i) = rw (t .is-item, q) in
         e ∙ ap (λ p. wholeAnswer (refuse 18 p)) (t .start-is) ∙ k
 
-    pub whole-low : (r : Whole) → row < 5 → r ≡ wholeAnswer (refuse 18 (f .start)) → r ≡ wholeAnswer (wholeNumber d x i)
-    whole-low r l e = not-one r (low-row (valueOf x (t .note)) (t .note .field .type) (rw row-is at l)) e
+    pub whole-low : (r : Whole) → c < 0x23 → r ≡ wholeAnswer (refuse 18 (f .start)) → r ≡ wholeAnswer (wholeNumber d x i)
+    whole-low r l e = not-one r (not-whole (t .note .field .type) (valueOf x (t .note)) (λ q. omega (arith, code-is)) (λ q. omega (arith, code-is))) e
 
-    pub whole-high : (r : Whole) → 6 < row → r ≡ wholeAnswer (refuse 18 (f .start)) → r ≡ wholeAnswer (wholeNumber d x i)
-    whole-high r l e = not-one r (high-row (valueOf x (t .note)) (t .note .field .type) (rw row-is at l)) e
+    pub whole-high : (r : Whole) → 0x24 < c → r ≡ wholeAnswer (refuse 18 (f .start)) → r ≡ wholeAnswer (wholeNumber d x i)
+    whole-high r l e = not-one r (not-whole (t .note .field .type) (valueOf x (t .note)) (λ q. omega (arith, code-is)) (λ q. omega (arith, code-is))) e
 
-    module _ (least : 5 ≤ row) (most : row ≤ 6) where
-      is-whole : wholeOf (t .note .field .type) (valueOf x (t .note)) ≡ some (wholeUpTo8 (valueOf x (t .note)) (eqb row 6))
+    module _ (least : 0x23 ≤ c) (most : c ≤ 0x24) where
+      is-whole : wholeOf (t .note .field .type) (valueOf x (t .note)) ≡ some (wholeUpTo8 (valueOf x (t .note)) (eqb c 0x24))
       is-whole =
-          rw row-is
-          (whole-row (t .note .field .type) (t .note .field .size) (valueOf x (t .note)) (rw row-is at least) (rw row-is at most) (t .good .field-good .allowed)
+          rw code-is
+          (whole-code (t .note .field .type) (t .note .field .size) (valueOf x (t .note)) (rw code-is at least) (rw code-is at most) (t .good .field-good .allowed)
           (λ q. omega (arith, t .good .filled q .0, length-take (t .note .value) (drop (t .note .start + t .note .prefix) x))))
 
       pub whole-null : f .null ≡ true → record { number = 0; place = 0; null = true; value = pos 0 } ≡ wholeAnswer (wholeNumber d x i)
@@ -125,12 +111,12 @@ module _ (d x : List ℕ) (i : ℕ) (f : Found) (w : FoundAs (itemAt d x i) x f)
       whole-null q = let k : t .note .isNull ≡ true = sym (t .null-is) ∙ q in rw (t .is-item, is-whole, k)
 
       pub whole-read : (z : ℤ) → f .null ≡ false → SFits w64 z
-          → z ≡ wholeUpTo8 (take (f .start + f .prefix + f .value - (f .start + f .prefix)) (drop (f .start + f .prefix) x)) (eqb row 6)
+          → z ≡ wholeUpTo8 (take (f .start + f .prefix + f .value - (f .start + f .prefix)) (drop (f .start + f .prefix) x)) (eqb c 0x24)
           → record { number = 0; place = 0; null = false; value = toZ w64 (ofZ w64 z) } ≡ wholeAnswer (wholeNumber d x i)
       unfolding wholeNumber
       whole-read z q s e =
           let k : t .note .isNull ≡ false = sym (t .null-is) ∙ q in
           let v : take (f .start + f .prefix + f .value - (f .start + f .prefix)) (drop (f .start + f .prefix) x) ≡ valueOf x (t .note) =
           ap (λ n. take n (drop (f .start + f .prefix) x)) (add-sub-cancel-left (f .start + f .prefix) (f .value)) ∙ t .value-is in
-          let m : z ≡ wholeUpTo8 (valueOf x (t .note)) (eqb row 6) = e ∙ ap (λ l. wholeUpTo8 l (eqb row 6)) v in
+          let m : z ≡ wholeUpTo8 (valueOf x (t .note)) (eqb c 0x24) = e ∙ ap (λ l. wholeUpTo8 l (eqb c 0x24)) v in
           rw (toZ-ofZ w64 z s, t .is-item, is-whole, k) (ap wholly m)

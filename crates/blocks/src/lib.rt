@@ -16,6 +16,13 @@ use fdoca::Listed;
 use fdoca::State;
 use fdoca::Whole;
 
+// The plain type codes of what is read as a number: whole numbers, X'24' byte-reversed, with no code between the two; and packed decimals.
+const INTEGER: u8 = 0x23;
+
+const REVERSED: u8 = 0x24;
+
+const PACKED: u8 = 0x30;
+
 // Where an item's value lies: so many bytes behind the data's beginning, and so long. A refusal has its number and place, and zeros.
 pub struct Lent {
     pub number: u32,
@@ -171,11 +178,12 @@ pub fn whole_number(descriptor: &[u8], data: &[u8], item: u32) -> Whole
             value: 0,
         };
     }
-    let row = field_types::row_of((found.entry / 16777216 % 256) as u8);
-    if row < 5 {
+    let code = (found.entry / 16777216 % 256) as u8;
+    let plain = field_types::plain_code(code);
+    if plain < INTEGER {
         return not_whole(found.start);
     }
-    if 6 < row {
+    if REVERSED < plain {
         return not_whole(found.start);
     }
     if found.null {
@@ -192,12 +200,9 @@ pub fn whole_number(descriptor: &[u8], data: &[u8], item: u32) -> Whole
         number: 0,
         place: 0,
         null: false,
-        value: numbers::read(&data[from..to], row == 6),
+        value: numbers::read(&data[from..to], plain == REVERSED),
     }
 }
-
-// The row of X'30'.
-const PACKED: u8 = 7;
 
 // Where an entry's part of digits begins: whether they are odd in number, then the fraction digits.
 const DIGITS: u64 = 4398046511104;
@@ -249,8 +254,9 @@ pub fn packed(descriptor: &[u8], data: &[u8], item: u32) -> Decimal
     if found.number != 0 {
         return no_decimal(found.number, found.place as usize);
     }
-    let row = field_types::row_of((found.entry / 16777216 % 256) as u8);
-    if row != PACKED {
+    let code = (found.entry / 16777216 % 256) as u8;
+    let plain = field_types::plain_code(code);
+    if plain != PACKED {
         return no_decimal(18, found.start);
     }
     let digits = found.entry / DIGITS % 64;

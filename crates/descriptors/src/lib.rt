@@ -7,7 +7,6 @@ ghost use Rattle.fdoca.specs.Basics.{refuse};
 ghost use Rattle.fdoca.specs.Triplet.{triplets};
 ghost use Rattle.fdoca.specs.Check.{check};
 ghost use Rattle.fdoca.specs.Calls.{checked};
-ghost use Rattle.field_types.specs.Rows.{RowTable};
 ghost use Rattle.sdas.specs.Tables.{Agreeing};
 ghost use Rattle.descriptors.specs.Holds.{MakesSame, Held, ClosedRow, SteppedSDA, SteppedRLO, SteppedCPT, Advanced, Bare, Examination};
 use fdoca::Checked;
@@ -97,15 +96,14 @@ fn close(
 fn sda_step(
     t: &[u8],
     p: usize,
-    rows: &[u8; 256],
     starts: &mut [u16; 256],
     sizes: &mut [u32; 256],
     entries: &mut [u64; 256],
 ) -> Step
-    requires { ⌜ RowTable (now rows) × (p < 4096) ⌝ }
+    requires { ⌜ p < 4096 ⌝ }
     ensures { λ r. ⌜ SteppedSDA (now (t .entry)) p (now (starts .entry)) (now (sizes .entry)) (now (entries .entry)) (now (starts .exit)) (now (sizes .exit)) (now (entries .exit)) r ⌝ }
 {
-    let judged = sdas::judge_sda(t, rows, starts);
+    let judged = sdas::judge_sda(t, starts);
     if judged.number != 0 {
         return bare(judged.number);
     }
@@ -159,14 +157,13 @@ fn cpt_step(t: &[u8], starts: &[u16; 256], sizes: &[u32; 256], x: Step) -> Step
 // The step over the triplet at p, x being the step before.
 fn advance(
     desc: &[u8],
-    rows: &[u8; 256],
     starts: &mut [u16; 256],
     sizes: &mut [u32; 256],
     entries: &mut [u64; 256],
     p: usize,
     x: Step,
 ) -> Step
-    requires { ⌜ RowTable (now rows) × Held (now desc) (now starts) (now sizes) (now entries) p x × (p < length (now desc)) × (length (now desc) ≤ 4096) ⌝ }
+    requires { ⌜ Held (now desc) (now starts) (now sizes) (now entries) p x × (p < length (now desc)) × (length (now desc) ≤ 4096) ⌝ }
     ensures { λ r. ⌜ Advanced (now (desc .entry)) (now (starts .exit)) (now (sizes .exit)) (now (entries .exit)) p r ⌝ }
 {
     let n = numbers::wide(desc[p]);
@@ -184,7 +181,7 @@ fn advance(
     }
     close(desc, starts, sizes, entries, p, x);
     if kind == SDA {
-        return sda_step(t, p, rows, starts, sizes, entries);
+        return sda_step(t, p, starts, sizes, entries);
     }
     if kind == RLO {
         return rlo_step(t, p, starts, sizes);
@@ -219,11 +216,10 @@ pub fn examine(
     if 4096 < desc.len() {
         return answer(1, 0, 0, 0);
     }
-    let rows = field_types::all_rows();
     let mut p = 0;
     let mut x = bare(0);
     while p < desc.len() {
-        x = advance(desc, &rows, starts, sizes, entries, p, x);
+        x = advance(desc, starts, sizes, entries, p, x);
         if x.number != 0 {
             return answer(x.number as u32, p as u32, 0, 0);
         }

@@ -1,36 +1,16 @@
--- A table's rule, at every entry, from one test that is computed over the whole table; its end; and what is looked up in it.
+-- The entries of a list and its end; and what is looked up in a table.
 -- Assumes nothing.
-use mathlib.Core.Path.{_≡_, refl, ap, _∙_}
-use Prim.Native.Nat.{ℕ, zero, suc, _+_, _<_, _≤_}
+use mathlib.Core.Path.{_≡_, refl}
+use Prim.Native.Nat.{ℕ, zero, suc, _<_, _≤_}
 use native.Mathlib.Omega.{arith}
 use mathlib.Core.Bool.{Bool, true, false, _&&_}
 use mathlib.Core.List.{List, [], _∷_}
 use mathlib.Core.Option.{none, some}
-use lib.Dec.{T, eqb, eqb→eq}
-use lib.ListN.{length, getD, getElem?}
-use borrow.Author.Tests.{eqb-true, eqb-false}
+use lib.Dec.{eqb}
+use lib.ListN.{length, getElem?}
+use borrow.Author.Tests.{eqb-true, eqb-false, ne-eqb}
 use Rattle.fdoca.specs.Basics.{if_then_else_, lookup}
 use Rattle.fdoca.proofs.Tests.{and-left, and-right}
-
--- each entry is the rule's number at its place, counted from i
-abbrev pub agrees : (ℕ → ℕ) → ℕ → List ℕ → Bool
-agrees g i [] = true
-agrees g i (x ∷ xs) = eqb x (g i) && agrees g (suc i) xs
-
-both : (a b : Bool) → T (a && b) → T a × T b
-both true b t = (tt, t)
-both false b t = absurd t
-
-from : (g : ℕ → ℕ) (i : ℕ) (xs : List ℕ) (k : ℕ) → k < length xs → T (agrees g i xs) → getD xs k 0 ≡ g (i + k)
-from g i [] k h t = absurd (let z : ⊥ = omega arith in z)
-from g i (x ∷ xs) zero h t = let n : i ≡ i + 0 = omega arith in eqb→eq x (g i) (both (eqb x (g i)) (agrees g (suc i) xs) t .0) ∙ ap g n
-from g i (x ∷ xs) (suc k) h t =
-    let n : suc i + k ≡ i + suc k = omega arith in
-    from g (suc i) xs k (omega arith) (both (eqb x (g i)) (agrees g (suc i) xs) t .1) ∙ ap g n
-
--- for `search`, which takes the list from the goal
-pub is-table : (g : ℕ → ℕ) (xs : List ℕ) (k : ℕ) → k < length xs → T (agrees g 0 xs) → getD xs k 0 ≡ g k
-is-table g xs k h t = let n : 0 + k ≡ k = omega arith in from g 0 xs k h t ∙ ap g n
 
 -- nothing stands past a list's end
 pub past-end : {A : Type 0} (l : List A) (k : ℕ) → length l ≤ k → getElem? l k ≡ none
@@ -101,3 +81,7 @@ module _ {A : Type 0} where
           → (n ≡ x .0 → ⊥) × Unlisted n es
       go true t e ih = absurd (let z : _≡_ {A = ℕ} 0 1 = cc in let w : ⊥ = omega arith in w)
       go false t e ih = (eqb-false n (x .0) t, ih e)
+
+  pub not-listed : (n : ℕ) (es : List (ℕ × A)) → Unlisted n es → lookup n es ≡ none
+  not-listed n [] h = refl
+  not-listed n (x ∷ es) h = rw (ne-eqb n (x .0) (h .0)) (not-listed n es (h .1))

@@ -12,7 +12,7 @@ use lib.Dec.{leb, ltb, eqb}
 use lib.ListN.{getD}
 use borrow.Author.Tests.{ltb-true, leb-true, le-leb, lt-leb, eqb-true, eq-eqb}
 use Rattle.fdoca.specs.Basics.{if_then_else_, elem, lookup}
-use Rattle.fdoca.specs.FieldType.{FieldType, fixedBytes, variableBytes, terminatedBytes, shortBytes, integer, reversedInteger, packedDecimal, hexFloat, reversedFloat, binaryFloat, types, nullable, typeOf, Size, bytes, digits, oneOf, sizeOf, Rule, allows, ruleOf, lengthThatHolds, sizeThatHolds}
+use Rattle.fdoca.specs.FieldType.{FieldType, fixedBytes, variableBytes, terminatedBytes, shortBytes, integer, reversedInteger, packedDecimal, hexFloat, reversedFloat, binaryFloat, types, nullable, plain, typeOf, Size, bytes, digits, oneOf, sizeOf, Rule, allows, ruleOf, lengthThatHolds, sizeThatHolds}
 use Rattle.fdoca.specs.Triplet.{biasOf, modeOf, sizeIn}
 use Rattle.fdoca.specs.Check.{most, goodParameters, goodType}
 use Rattle.fdoca.specs.Reasons as R
@@ -59,6 +59,11 @@ plain-code c T h =
     let f = looked-up (λ c T. eqb c (plainCode T) && ltb c 128) c types T refl h in
     (eqb-true c (plainCode T) (and-left (eqb c (plainCode T)) (ltb c 128) f), ltb-true c 128 (and-right (eqb c (plainCode T)) (ltb c 128) f))
 
+-- the plain code of a type's code is the type's
+pub type-plain : (c : ℕ) (T : FieldType) → typeOf c ≡ some T → plain c ≡ plainCode T
+unfolding typeOf
+type-plain c T h = plain-code (plain c) T h .0
+
 -- A code stands for a type exactly where it is the type's plain code or that plus X'80'.
 pub data Coded (T : FieldType) : ℕ → Type 0 where
   as-plain : {c : ℕ} → c ≡ plainCode T → c < 128 → Coded T c
@@ -87,6 +92,9 @@ type-of-plain packedDecimal = refl
 type-of-plain hexFloat = refl
 type-of-plain reversedFloat = refl
 type-of-plain binaryFloat = refl
+
+pub same-plain : (T U : FieldType) → plainCode T ≡ plainCode U → T ≡ U
+same-plain T U e = Option·some-injective T U (sym (type-of-plain T) ∙ ap (λ c. lookup c types) e ∙ type-of-plain U)
 
 pub type-of-code : {c : ℕ} {T : FieldType} → Coded T c → typeOf c ≡ some T
 unfolding typeOf

@@ -10,16 +10,16 @@ use lib.Dec.{leb, ltb, eqb, lit≤}
 use lib.ListN.{length, getD}
 use borrow.Author.Tests.{le-ltb, le-leb, lt-leb, eq-eqb, ne-eqb}
 use Rattle.fdoca.specs.Basics.{if_then_else_, elem, big}
-use Rattle.fdoca.specs.FieldType.{FieldType, fixedBytes, variableBytes, terminatedBytes, shortBytes, integer, reversedInteger, packedDecimal, hexFloat, reversedFloat, binaryFloat, typeOf, Layout, Size, bytes, Sizes, upTo, oneOf, digitsUpTo, sizeOf, allows, ruleOf, lengthThatHolds, sizeThatHolds}
+use Rattle.fdoca.specs.FieldType.{FieldType, fixedBytes, variableBytes, terminatedBytes, shortBytes, integer, reversedInteger, packedDecimal, hexFloat, reversedFloat, binaryFloat, plain, typeOf, Layout, Size, bytes, Sizes, upTo, oneOf, digitsUpTo, sizeOf, allows, ruleOf, lengthThatHolds, sizeThatHolds}
 use Rattle.fdoca.specs.FieldType as definition
 use Rattle.fdoca.specs.Triplet.{biasOf, modeOf, sizeIn}
 use Rattle.fdoca.specs.Check.{most, goodParameters, goodType}
 use Rattle.fdoca.proofs.Tests.{by-test, by-lt}
 use Rattle.field_types.specs.declared.Rule.{Rule}
 use Rattle.field_types.specs.declared.Shape.{Shape}
-use Rattle.field_types.specs.Rows.{rowOf, topOf, sizesOf, mostDigits, defaultNumber, noSize, sizeAt, formOf, inNumbers, ruleFor, encoded, ruleAt}
+use Rattle.field_types.specs.Rows.{topOf, sizesOf, mostDigits, defaultNumber, noSize, sizeAt, formOf, inNumbers, ruleFor, encoded, ruleAt}
 use Rattle.field_types.specs.Parameters.{unusedZero, lengthAllowed, digitsAllowed, sizeAllowed, ruleAllows, sizeHeld, goodEight, layoutNumber, sizeNumber, shapeOf, noShape, shapeIf}
-use Rattle.field_types.proofs.Rows.{rule-in-row, prefix-below-4}
+use Rattle.field_types.proofs.Rows.{prefix-below-4}
 use Rattle.numbers.proofs.Pairs.{two-at}
 
 -- no type has more than three sizes, one with digits allows one at the least and has no default, and a default is a number of two bytes above 0
@@ -220,9 +220,10 @@ module _ (code : ℕ) (ps : List ℕ) where
   unfolding goodEight
   unused-set z e f = simp (by-parts, ← e, f, and-false)
 
-  module _ (row : ℕ) (r : Rule) (w : row ≡ rowOf (typeOf code)) (k : r ≡ ruleAt row) where
+  module _ (c : ℕ) (r : Rule) (w : c ≡ plain code) (k : r ≡ ruleAt c) where
     rule-is : r ≡ encoded (typeOf code)
-    rule-is = k ∙ ap ruleAt w ∙ rule-in-row (typeOf code)
+    unfolding ruleAt typeOf
+    rule-is = k ∙ ap ruleAt w
 
     module _ (a b size : ℕ) (ea : a ≡ getD ps 6 0) (high : a < 256) (eb : b ≡ getD ps 7 0) (low : b < 256) (es : size ≡ sizeHeld r (a * 256 + b)) where
       size-is : size ≡ lengthThatHolds (ruleFor (typeOf code) .default) (a * 256 + b)

@@ -1,43 +1,15 @@
--- The two tables (document 01, "Field types"): a field type's row, and a row's rule, which is the rule of its type in numbers.
-use Prim.Native.Nat.{ℕ, zero, suc, _+_, _<_}
-use mathlib.Core.Path.{_≡_}
+-- The table of rules (document 01, "Field types"): the rule of a field type in numbers, and the one that a plain type code finds (document 02, Q-3).
+use Prim.Native.Nat.{ℕ, _+_}
 use mathlib.Core.Bool.{false}
 use mathlib.Core.List.{List, []}
 use mathlib.Core.Option.{Option, none, some}
 use lib.Dec.{eqb}
-use lib.ListN.{getD, getElem?}
-use Rattle.fdoca.specs.Basics.{if_then_else_}
-use Rattle.fdoca.specs.FieldType.{FieldType, fixedBytes, variableBytes, terminatedBytes, shortBytes, integer, reversedInteger, packedDecimal, hexFloat, reversedFloat, binaryFloat, types, typeOf, Layout, fixed, counted, terminated, signedTwo, unsignedOne, Sizes, upTo, oneOf, digitsUpTo, rule, ruleOf}
+use lib.ListN.{getD}
+use Rattle.fdoca.specs.Basics.{if_then_else_, lookup}
+use Rattle.fdoca.specs.FieldType.{FieldType, types, Layout, fixed, counted, terminated, signedTwo, unsignedOne, Sizes, upTo, oneOf, digitsUpTo, rule, ruleOf}
 use Rattle.fdoca.specs.FieldType as definition
 use Rattle.fdoca.specs.Check.{most}
 use Rattle.field_types.specs.declared.Rule.{Rule}
-
--- The rows: 0 for none, then the types in the order of `types`.
-unfoldable pub rowOf : Option FieldType → ℕ
-rowOf none = 0
-rowOf (some fixedBytes) = 1
-rowOf (some variableBytes) = 2
-rowOf (some terminatedBytes) = 3
-rowOf (some shortBytes) = 4
-rowOf (some integer) = 5
-rowOf (some reversedInteger) = 6
-rowOf (some packedDecimal) = 7
-rowOf (some hexFloat) = 8
-rowOf (some reversedFloat) = 9
-rowOf (some binaryFloat) = 10
-
--- A table of the rows of all type codes.
-pub record RowTable (rows : List ℕ) : Type 0 where
-  pub row : (code : ℕ) → code < 256 → getD rows code 0 ≡ rowOf (typeOf code)
-
-abbrev pub typeOfEntry : Option (ℕ × FieldType) → Option FieldType
-typeOfEntry none = none
-typeOfEntry (some e) = some (e .1)
-
--- The type of a row: none in row 0 and past the table.
-unfoldable pub typeAt : ℕ → Option FieldType
-typeAt zero = none
-typeAt (suc k) = typeOfEntry (getElem? types k)
 
 -- A layout's number, and the layout of a number.
 unfoldable pub prefixOf : Layout → ℕ
@@ -111,6 +83,6 @@ ruleFor (some T) = ruleOf T
 unfoldable pub encoded : Option FieldType → Rule
 encoded o = inNumbers (ruleFor o)
 
--- The rule in a row.
-unfoldable pub ruleAt : ℕ → Rule
-ruleAt row = encoded (typeAt row)
+-- The rule of the type that a plain code stands for.
+unfoldable pub ruleAt : (plain : ℕ) → Rule
+ruleAt plain = encoded (lookup plain types)

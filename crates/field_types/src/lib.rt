@@ -1,9 +1,9 @@
-// Field types (document 01, "Field types"; document 02, Q-1 and Q-2): the row of a type code, the rule of each row, the size that holds for an SDA's type parameters, and their test.
+// Field types (document 01, "Field types"; document 02, Q-1 to Q-3): the plain code of a type code, the rule that it finds, the size that holds for an SDA's type parameters, and their test.
 ghost use mathlib.Core.Path.{_≡_};
 ghost use Prim.Native.Nat.{_<_};
 ghost use lib.ListN.{length};
-ghost use Rattle.fdoca.specs.FieldType.{typeOf};
-ghost use Rattle.field_types.specs.Rows.{rowOf, RowTable, ruleAt};
+ghost use Rattle.fdoca.specs.FieldType.{plain};
+ghost use Rattle.field_types.specs.Rows.{ruleAt};
 ghost use Rattle.field_types.specs.Parameters.{unusedZero, sizeHeld, lengthAllowed, digitsAllowed, sizeAllowed, ruleAllows, goodEight, noShape, shapeIf};
 use numbers::pair;
 use numbers::wide;
@@ -40,266 +40,6 @@ struct Rule {
     // A value has the field length (0), follows a length field of one or two bytes (1, 2), ends before a zero byte (3), or has digits (4).
     prefix: u8,
 }
-
-// The row of each type code, 0 for none.
-const ROWS: [u8; 256] = [
-    0,
-    1, // X'01'
-    2, // X'02'
-    3, // X'03'
-    0,
-    0,
-    0,
-    4, // X'07'
-    0,
-    0,
-    0,
-    0,
-    0,
-    0,
-    0,
-    0,
-    0,
-    0,
-    0,
-    0,
-    0,
-    0,
-    0,
-    0,
-    0,
-    0,
-    0,
-    0,
-    0,
-    0,
-    0,
-    0,
-    0,
-    0,
-    0,
-    5, // X'23'
-    6, // X'24'
-    0,
-    0,
-    0,
-    0,
-    0,
-    0,
-    0,
-    0,
-    0,
-    0,
-    0,
-    7, // X'30'
-    0,
-    0,
-    0,
-    0,
-    0,
-    0,
-    0,
-    0,
-    0,
-    0,
-    0,
-    0,
-    0,
-    0,
-    0,
-    8, // X'40'
-    0,
-    0,
-    0,
-    0,
-    0,
-    0,
-    9, // X'47'
-    10, // X'48'
-    0,
-    0,
-    0,
-    0,
-    0,
-    0,
-    0,
-    0,
-    0,
-    0,
-    0,
-    0,
-    0,
-    0,
-    0,
-    0,
-    0,
-    0,
-    0,
-    0,
-    0,
-    0,
-    0,
-    0,
-    0,
-    0,
-    0,
-    0,
-    0,
-    0,
-    0,
-    0,
-    0,
-    0,
-    0,
-    0,
-    0,
-    0,
-    0,
-    0,
-    0,
-    0,
-    0,
-    0,
-    0,
-    0,
-    0,
-    0,
-    0,
-    0,
-    0,
-    0,
-    0,
-    0,
-    0,
-    0,
-    1, // X'81'
-    2, // X'82'
-    3, // X'83'
-    0,
-    0,
-    0,
-    4, // X'87'
-    0,
-    0,
-    0,
-    0,
-    0,
-    0,
-    0,
-    0,
-    0,
-    0,
-    0,
-    0,
-    0,
-    0,
-    0,
-    0,
-    0,
-    0,
-    0,
-    0,
-    0,
-    0,
-    0,
-    0,
-    0,
-    0,
-    0,
-    5, // X'A3'
-    6, // X'A4'
-    0,
-    0,
-    0,
-    0,
-    0,
-    0,
-    0,
-    0,
-    0,
-    0,
-    0,
-    7, // X'B0'
-    0,
-    0,
-    0,
-    0,
-    0,
-    0,
-    0,
-    0,
-    0,
-    0,
-    0,
-    0,
-    0,
-    0,
-    0,
-    8, // X'C0'
-    0,
-    0,
-    0,
-    0,
-    0,
-    0,
-    9, // X'C7'
-    10, // X'C8'
-    0,
-    0,
-    0,
-    0,
-    0,
-    0,
-    0,
-    0,
-    0,
-    0,
-    0,
-    0,
-    0,
-    0,
-    0,
-    0,
-    0,
-    0,
-    0,
-    0,
-    0,
-    0,
-    0,
-    0,
-    0,
-    0,
-    0,
-    0,
-    0,
-    0,
-    0,
-    0,
-    0,
-    0,
-    0,
-    0,
-    0,
-    0,
-    0,
-    0,
-    0,
-    0,
-    0,
-    0,
-    0,
-    0,
-    0,
-    0,
-    0,
-    0,
-    0,
-    0,
-    0,
-    0,
-    0,
-];
 
 // The rules, row by row. Row 0 allows no field length, and so nothing.
 const RULES: [Rule; 11] = [
@@ -437,35 +177,31 @@ const RULES: [Rule; 11] = [
     },
 ];
 
-// The row of a type code, 0 for none.
-pub fn row_of(code: u8) -> u8
-    ensures { λ r. ⌜ r ≡ rowOf (typeOf code) ⌝ }
+// The plain code of a type code, whose nullable form is the plain code plus X'80'.
+pub fn plain_code(code: u8) -> u8
+    ensures { λ r. ⌜ r ≡ plain code ⌝ }
 {
-    ROWS[code as usize]
+    if code < 128 {
+        return code;
+    }
+    code - 128
 }
 
-// The rows of all type codes, for a caller that looks up many: the constant is built anew wherever it is read.
-pub fn all_rows() -> [u8; 256]
-    ensures { λ r. ⌜ RowTable r ⌝ }
+// The rule that a plain code finds; where it finds none, that of row 0. Each index is a constant, so that the table is never copied to be read.
+fn rule_at(plain: u8) -> Rule
+    ensures { λ r. ⌜ r ≡ ruleAt plain ⌝ }
 {
-    ROWS
-}
-
-// The rule in a row; past the table, that of row 0. Each index is a constant, so that the table is never copied to be read.
-fn rule_at(row: u8) -> Rule
-    ensures { λ r. ⌜ r ≡ ruleAt row ⌝ }
-{
-    match row {
-        1 => RULES[1],
-        2 => RULES[2],
-        3 => RULES[3],
-        4 => RULES[4],
-        5 => RULES[5],
-        6 => RULES[6],
-        7 => RULES[7],
-        8 => RULES[8],
-        9 => RULES[9],
-        10 => RULES[10],
+    match plain {
+        0x01 => RULES[1],
+        0x02 => RULES[2],
+        0x03 => RULES[3],
+        0x07 => RULES[4],
+        0x23 => RULES[5],
+        0x24 => RULES[6],
+        0x30 => RULES[7],
+        0x40 => RULES[8],
+        0x47 => RULES[9],
+        0x48 => RULES[10],
         _ => RULES[0],
     }
 }
@@ -572,8 +308,7 @@ pub fn no_shape() -> Shape
 }
 
 // The shape of an SDA whose type parameters are eight bytes that its field type allows, with the size that holds; else `no_shape`.
-pub fn shape_of(rows: &[u8; 256], code: u8, ps: &[u8]) -> Shape
-    requires { ⌜ RowTable (now rows) ⌝ }
+pub fn shape_of(code: u8, ps: &[u8]) -> Shape
     ensures { λ r. ⌜ r ≡ shapeIf (goodEight code (now (ps .entry))) code (now (ps .entry)) ⌝ }
 {
     if ps.len() != 8 {
@@ -582,7 +317,8 @@ pub fn shape_of(rows: &[u8; 256], code: u8, ps: &[u8]) -> Shape
     if !unused_zero(ps) {
         return no_shape();
     }
-    let rule = rule_at(rows[code as usize]);
+    let plain = plain_code(code);
+    let rule = rule_at(plain);
     let given = wide(ps[6]) * 256 + wide(ps[7]);
     let size = size_held(rule, given);
     if rule_allows(rule, pair(ps[2], ps[3]), ps[5], size) {

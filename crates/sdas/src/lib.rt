@@ -5,7 +5,6 @@ ghost use mathlib.Core.Bool.{true};
 ghost use Rattle.fdoca.specs.Triplet.{codeOf, parametersOf, extentsOf};
 ghost use Rattle.fdoca.specs.Basics.{product};
 ghost use Rattle.fdoca.specs.Check.{goodLengthSDA, goodSDA};
-ghost use Rattle.field_types.specs.Rows.{RowTable};
 ghost use Rattle.field_types.specs.Parameters.{shapeOf, noShape, shapeIf};
 ghost use Rattle.plans.specs.Tied.{lowerOf};
 ghost use Rattle.sdas.specs.Judged.{extentOr1, JudgedSDA};
@@ -84,8 +83,8 @@ fn item_count(t: &[u8]) -> usize
 }
 
 // The shape of an SDA whose id, type, parameters and extents are good, else `no_shape`.
-fn sda_shape(t: &[u8], rows: &[u8; 256]) -> Shape
-    requires { ⌜ RowTable (now rows) × (goodLengthSDA (now t) ≡ true) ⌝ }
+fn sda_shape(t: &[u8]) -> Shape
+    requires { ⌜ goodLengthSDA (now t) ≡ true ⌝ }
     ensures { λ r. ⌜ r ≡ shapeIf (goodSDA (now (t .entry))) (codeOf (now (t .entry))) (parametersOf (now (t .entry))) ⌝ }
 {
     if t[2] == 0 {
@@ -94,18 +93,17 @@ fn sda_shape(t: &[u8], rows: &[u8; 256]) -> Shape
     if item_count(t) == 0 {
         return field_types::no_shape();
     }
-    field_types::shape_of(rows, t[3], &t[4..12])
+    field_types::shape_of(t[3], &t[4..12])
 }
 
 // An SDA's shape and item count, or the number of its refusal.
-pub fn judge_sda(t: &[u8], rows: &[u8; 256], starts: &[u16; 256]) -> Judged
-    requires { ⌜ RowTable (now rows) ⌝ }
+pub fn judge_sda(t: &[u8], starts: &[u16; 256]) -> Judged
     ensures { λ r. ⌜ JudgedSDA (now (t .entry)) (now (starts .entry)) r ⌝ }
 {
     if !sda_length(t) {
         return refused(5);
     }
-    let shape = sda_shape(t, rows);
+    let shape = sda_shape(t);
     if shape.layout == field_types::NO_LAYOUT {
         return refused(6);
     }

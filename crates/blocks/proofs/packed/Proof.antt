@@ -15,11 +15,11 @@ no-decimal-requires c κs = search needs
 returns : tie.Need-returns
 returns c = search (packed-refused)
 
-cast-row-of : tie.Need-cast-row-of
-cast-row-of c = search needs
+cast-code : tie.Need-cast-code
+cast-code c = search needs
 
-row-of-requires : tie.Need-row-of-requires
-row-of-requires c κs = search needs
+plain-code-requires : tie.Need-plain-code-requires
+plain-code-requires c κs = search needs
 
 no-decimal-requires-2 : tie.Need-no-decimal-requires-2
 no-decimal-requires-2 c κs = search needs
@@ -53,8 +53,8 @@ packed-spec =
     cast-no-decimal
     no-decimal-requires
     returns
-    cast-row-of
-    row-of-requires
+    cast-code
+    plain-code-requires
     no-decimal-requires-2
     returns-2
     cast-decimal

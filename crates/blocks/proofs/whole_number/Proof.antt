@@ -9,11 +9,11 @@ find-requires c κs = search needs
 returns : tie.Need-returns
 returns c = search (whole-refused)
 
-cast-row-of : tie.Need-cast-row-of
-cast-row-of c = search needs
+cast-code : tie.Need-cast-code
+cast-code c = search needs
 
-row-of-requires : tie.Need-row-of-requires
-row-of-requires c κs = search needs
+plain-code-requires : tie.Need-plain-code-requires
+plain-code-requires c κs = search needs
 
 not-whole-requires : tie.Need-not-whole-requires
 not-whole-requires c κs = search needs
@@ -57,8 +57,8 @@ whole-number-spec =
     (tie.spec
     find-requires
     returns
-    cast-row-of
-    row-of-requires
+    cast-code
+    plain-code-requires
     not-whole-requires
     returns-2
     not-whole-requires-2

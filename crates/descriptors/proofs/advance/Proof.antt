@@ -61,7 +61,7 @@ rlo-step-requires c κs =
     let b = c .before .before .before .before .before .before .before .before in
     let a = b .before .before .before in
     let pre = a .before .before .before .before .before .pre in
-    tables-agree _ _ _ _ _ _ _ _ (pre .1) (pre .2) (a .before .before .wide .ensures .0) (a .before .if1 .left) (a .if2 .left) refl _ _ _ (c .before .before .before .before .close .ensures) (b .if3 .left)
+    tables-agree _ _ _ _ _ _ _ _ (pre .0) (pre .1) (a .before .before .wide .ensures .0) (a .before .if1 .left) (a .if2 .left) refl _ _ _ (c .before .before .before .before .close .ensures) (b .if3 .left)
 
 returns-5 : tie.Need-returns-5
 returns-5 c = search (over-rlo)

@@ -2,25 +2,21 @@ use Rattle.descriptors.proofs.Examining.{oversized, at-first, at-next, 
 use Prim.Native.Nat.{_-_, _≤_}
 use lib.ListN.{length}
 use borrow.Author.Needs.{needs}
-use Rattle.field_types.specs.Rows.{RowTable}
 use Rattle.descriptors.specs.Holds.{Held}
 use Rattle.descriptors.proofs.examine.Statement.{statement}
 use Rattle.descriptors.proofs.examine.Tie as tie
 
 abbrev Inv-loop : tie.InvT-loop
-Inv-loop desc starts₀ sizes₀ entries₀ rows p₀ x₀ starts sizes entries p x = RowTable rows × Held desc starts sizes entries p x × (length desc ≤ 4096)
+Inv-loop desc starts₀ sizes₀ entries₀ p₀ x₀ starts sizes entries p x = Held desc starts sizes entries p x × (length desc ≤ 4096)
 
 abbrev μ-loop : tie.MeasureT-loop
-μ-loop desc starts₀ sizes₀ entries₀ rows p₀ x₀ starts sizes entries p x = length desc - p
+μ-loop desc starts₀ sizes₀ entries₀ p₀ x₀ starts sizes entries p x = length desc - p
 
 answer-requires : tie.Need-answer-requires Inv-loop μ-loop
 answer-requires c κs = search needs
 
 returns : tie.Need-returns Inv-loop μ-loop
 returns c = search (needs, oversized)
-
-all-rows-requires : tie.Need-all-rows-requires Inv-loop μ-loop
-all-rows-requires c κs = search needs
 
 bare-requires : tie.Need-bare-requires Inv-loop μ-loop
 bare-requires c κs = search needs
@@ -50,10 +46,10 @@ wide-requires : tie.Need-wide-requires Inv-loop μ-loop
 wide-requires c κs = search needs
 
 add-p : tie.Need-add-p Inv-loop μ-loop
-add-p c = next-fits _ _ _ _ _ _ (c .before .before .before .before .advance .ensures) _ (c .before .before .if2 .left) (c .wide .ensures .0) (c .before .before .before .before .before .before .before .before .before .before .loop .inv .2)
+add-p c = next-fits _ _ _ _ _ _ (c .before .before .before .before .advance .ensures) _ (c .before .before .if2 .left) (c .wide .ensures .0) (c .before .before .before .before .before .before .before .before .before .loop .inv .1)
 
 loop-less : tie.Need-loop-less Inv-loop μ-loop
-loop-less c = next-less _ _ _ _ _ _ (c .before .before .before .before .advance .ensures) _ (c .before .before .if2 .left) (c .wide .ensures .0) (c .before .before .before .before .before .before .before .before .before .loop-test .taken)
+loop-less c = next-less _ _ _ _ _ _ (c .before .before .before .before .advance .ensures) _ (c .before .before .if2 .left) (c .wide .ensures .0) (c .before .before .before .before .before .before .before .before .loop-test .taken)
 
 loop-again : tie.Need-loop-again Inv-loop μ-loop
 loop-again c = search (at-next)
@@ -87,7 +83,6 @@ examine-spec =
     μ-loop
     answer-requires
     returns
-    all-rows-requires
     bare-requires
     loop-holds
     advance-requires

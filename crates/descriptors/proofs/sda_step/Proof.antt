@@ -15,8 +15,8 @@ returns c = search (sda-refused)
 put-sda-requires : tie.Need-put-sda-requires
 put-sda-requires c κs = search (needs, judged-length, judged-good, judged-count, judged-shape)
 
-shared-slice-read-t15 : tie.Need-shared-slice-read-t15
-shared-slice-read-t15 c = search (judged-id)
+shared-slice-read-t14 : tie.Need-shared-slice-read-t14
+shared-slice-read-t14 c = search (judged-id)
 
 returns-2 : tie.Need-returns-2
 returns-2 c = search (sda-put)
@@ -29,5 +29,5 @@ sda-step-spec =
     bare-requires
     returns
     put-sda-requires
-    shared-slice-read-t15
+    shared-slice-read-t14
     returns-2)

@@ -1,7 +1,6 @@
 -- `field_types::shape_of` meets its contract.
 -- Assumes nothing.
 use borrow.Author.Tests.{not-true, not-false}
-use Rattle.field_types.proofs.Rows.{row-read}
 use Rattle.field_types.proofs.Allowed.{shape-not, not-eight, unused-set, by-rule, by-shape}
 use borrow.Author.Needs.{needs}
 use Rattle.field_types.proofs.shape_of.Statement.{statement}
@@ -22,8 +21,8 @@ no-shape-requires-2 c κs = search needs
 returns-2 : tie.Need-returns-2
 returns-2 c = search (shape-not, unused-set, not-true)
 
-element-copy-out-rule-at : tie.Need-element-copy-out-rule-at
-element-copy-out-rule-at c = search needs
+plain-code-requires : tie.Need-plain-code-requires
+plain-code-requires c κs = search needs
 
 rule-at-requires : tie.Need-rule-at-requires
 rule-at-requires c κs = search needs
@@ -65,13 +64,13 @@ rule-allows-requires : tie.Need-rule-allows-requires
 rule-allows-requires c κs = search needs
 
 returns-3 : tie.Need-returns-3
-returns-3 c = search (needs, by-shape, by-rule, not-false, row-read)
+returns-3 c = search (needs, by-shape, by-rule, not-false)
 
 no-shape-requires-3 : tie.Need-no-shape-requires-3
 no-shape-requires-3 c κs = search needs
 
 returns-4 : tie.Need-returns-4
-returns-4 c = search (needs, shape-not, by-rule, not-false, row-read)
+returns-4 c = search (needs, shape-not, by-rule, not-false)
 
 pub shape-of-spec : {M : Type 1} → statement M
 shape-of-spec =
@@ -82,7 +81,7 @@ shape-of-spec =
     unused-zero-requires
     no-shape-requires-2
     returns-2
-    element-copy-out-rule-at
+    plain-code-requires
     rule-at-requires
     shared-slice-read-wide
     wide-requires
