@@ -1,5 +1,6 @@
 //! The groups of cases, the same ones in every run.
 
+mod codes;
 mod descriptor_bytes;
 mod floats;
 mod forms;
@@ -15,7 +16,7 @@ pub struct Group {
     pub run: fn(&mut Comparison),
 }
 
-pub const GROUPS: [Group; 13] = [
+pub const GROUPS: [Group; 14] = [
     Group {
         name: "valid blocks of every form",
         run: forms::every_form,
@@ -47,6 +48,10 @@ pub const GROUPS: [Group; 13] = [
     Group {
         name: "sizes at and over their limits",
         run: limits::sizes,
+    },
+    Group {
+        name: "every type code",
+        run: codes::every_code,
     },
     Group {
         name: "every number of digits and fraction digits",
