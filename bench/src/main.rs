@@ -1,9 +1,10 @@
 //! Times the proved library beside a reader in plain Rust, on the same inputs, in
 //! turns, and prints a table.
 //!
-//! Where the stack and the code happen to lie changes the times, so several processes
+//! Where the stack and the code happen to lie changes the times, so many processes
 //! of each program named by the arguments measure, and the table has their medians.
-//! The programs differ in where the library's code lies.
+//! The programs differ in where the library's code lies. Those behind `--beside` are
+//! another state's: they measure by turns with the others, and have a table of their own.
 
 mod fast;
 mod inputs;
@@ -19,27 +20,45 @@ use std::process::Command;
 use measure::Measurement;
 use timing::{geometric_mean, median, Timing};
 
-const PROCESSES: usize = 3;
+/// Of each program. The stack of each lies elsewhere.
+const PROCESSES: usize = 25;
 const MEASURE: &str = "--measure";
+const BESIDE: &str = "--beside";
 
 fn main() -> io::Result<()> {
-    let mut programs: Vec<PathBuf> = env::args_os().skip(1).map(PathBuf::from).collect();
-    if programs == [Path::new(MEASURE)] {
+    let mut arguments: Vec<PathBuf> = env::args_os().skip(1).map(PathBuf::from).collect();
+    if arguments == [Path::new(MEASURE)] {
         measure::print_all();
         return Ok(());
     }
-    if programs.is_empty() {
-        programs.push(env::current_exe()?);
+    if arguments.is_empty() {
+        arguments.push(env::current_exe()?);
     }
-    let runs: Vec<Vec<Measurement>> = (0..PROCESSES)
-        .flat_map(|_| &programs)
-        .map(|program| measure_in_process(program))
-        .collect::<io::Result<_>>()?;
-    let rows: Vec<Measurement> = (0..runs[0].len())
-        .map(|row| median_of_runs(&runs, row))
-        .collect();
-    print_table(&rows);
+    let states: Vec<&[PathBuf]> = arguments.split(|word| word == Path::new(BESIDE)).collect();
+    let mut runs: Vec<Vec<Vec<Measurement>>> = vec![Vec::new(); states.len()];
+    for _ in 0..PROCESSES {
+        for (programs, runs) in states.iter().zip(&mut runs) {
+            for program in *programs {
+                runs.push(measure_in_process(program)?);
+            }
+        }
+    }
+    for (programs, runs) in states.iter().zip(&runs) {
+        print_state(programs, runs);
+    }
     Ok(())
+}
+
+/// The table of a state, by what the processes of its programs measured.
+fn print_state(programs: &[PathBuf], runs: &[Vec<Measurement>]) {
+    let Some(measured) = runs.first() else {
+        return;
+    };
+    let rows: Vec<Measurement> = (0..measured.len())
+        .map(|row| median_of_runs(runs, row))
+        .collect();
+    println!("{}", programs[0].display());
+    print_table(&rows);
 }
 
 fn measure_in_process(program: &Path) -> io::Result<Vec<Measurement>> {
