@@ -28,6 +28,11 @@ type-nullable code l = rw (plain-nullable code l)
 pub row-nullable : (code : ℕ) → code < 128 → ruleAt (plain (code + 128)) ≡ ruleAt (plain code)
 row-nullable code l = ap ruleAt (plain-nullable code l)
 
+-- X'00' and X'80' stand for no type
+pub zero-none : (typeOf 0x00 ≡ none) × (typeOf 0x80 ≡ none)
+unfolding typeOf
+zero-none = (refl, refl)
+
 -- the layout behind its number
 pub layout-back : (l : Layout) → layoutOf (prefixOf l) ≡ l
 unfolding layoutOf prefixOf
