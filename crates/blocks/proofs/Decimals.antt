@@ -55,19 +55,19 @@ module _ (d x : List ℕ) (i : ℕ) (f : Found) (w : FoundAs (itemAt d x i) x f)
     unfolding packed
     by-note = rw (t .is-item)
 
-    code-is : c ≡ plainCode (t .note .field .type)
-    code-is = plain-is d x i f w h c ec
+    type-code : c ≡ plainCode (t .note .field .type)
+    type-code = plain-is d x i f w h c ec
 
     pub packed-other : (r : Decimal) → (c ≡ 0x30 → ⊥) → r ≡ decimalAnswer (refuse 18 (f .start)) → r ≡ decimalAnswer (packed d x i)
     packed-other r n q = q ∙ rw (t .start-is, by-note) (go (t .note .field .size) refl)
       where
         go : (z : Size) → t .note .field .size ≡ z → decimalAnswer (refuse 18 (t .note .start)) ≡ decimalAnswer (the (digitsOf z) 18 (t .note .start) >>= (λ p. the (if t .note .isNull then some (pos 0) else packedNumber (p .0) (valueOf x (t .note))) 20 (t .note .start) >>= (λ z. ok (t .note .isNull, z, p .1))))
         go (bytes F) e = refl
-        go (digits p q) e = absurd (n (code-is ∙ ap plainCode (digits-packed (t .note .field) (t .good .field-good) p q e)))
+        go (digits p q) e = absurd (n (type-code ∙ ap plainCode (digits-packed (t .note .field) (t .good .field-good) p q e)))
 
     module _ (is-packed : c ≡ 0x30) where
       type-is : t .note .field .type ≡ packedDecimal
-      type-is = same-plain (t .note .field .type) packedDecimal (sym code-is ∙ is-packed)
+      type-is = same-plain (t .note .field .type) packedDecimal (sym type-code ∙ is-packed)
 
       -- the digits of the field, and what the entry tells of them
       record Sized : Type 0 where

@@ -13,13 +13,13 @@ use lib.ListN.{length, take, drop, length-take}
 use mir.Syntax.{w64}
 use mir.Val.{SFits, toZ, ofZ}
 use mir.ValLaws.{toZ-ofZ}
-use borrow.Author.Tests.{eqb-true}
+use borrow.Author.Tests.{eqb-true, eqb-false}
 use Rattle.fdoca.specs.declared.Whole.{Whole}
 use Rattle.fdoca.specs.Basics.{if_then_else_, Result, refuse, ok, _>>=_, the}
 use Rattle.fdoca.specs.FieldType.{FieldType, fixedBytes, variableBytes, terminatedBytes, shortBytes, integer, reversedInteger, packedDecimal, hexFloat, reversedFloat, binaryFloat, Size, bytes, digits, inBytes, fixed, oneOf, plain, allows, ruleOf}
 use Rattle.fdoca.specs.Walk.{Note}
 use Rattle.fdoca.specs.Calls.{itemAt, valueOf, wholeOf, wholeNumber, wholeAnswer}
-use Rattle.fdoca.proofs.TypeRows.{plainCode}
+use Rattle.fdoca.proofs.TypeRows.{plainCode, same-plain}
 use Rattle.numbers.specs.Whole.{wholeUpTo8}
 use Rattle.numbers.proofs.Whole.{read-integer, read-reversed}
 use Rattle.walks.specs.declared.Found.{Found}
@@ -59,16 +59,17 @@ not-whole binaryFloat bs n r = refl
 whole-code : (T : FieldType) (F : Size) (bs : List ℕ) → 0x23 ≤ plainCode T → plainCode T ≤ 0x24 → allows (ruleOf T .sizes) F ≡ true
     → (ruleOf T .layout ≡ fixed → length bs ≤ inBytes F) → wholeOf T bs ≡ some (wholeUpTo8 bs (eqb (plainCode T) 0x24))
 unfolding ruleOf
-whole-code integer F bs l h a n = let k : length bs ≤ 8 = omega (arith, eight F a, n refl) in read-integer bs k
-whole-code reversedInteger F bs l h a n = let k : length bs ≤ 8 = omega (arith, eight F a, n refl) in read-reversed bs k
-whole-code fixedBytes F bs l h a n = absurd (let w : ⊥ = omega arith in w)
-whole-code variableBytes F bs l h a n = absurd (let w : ⊥ = omega arith in w)
-whole-code terminatedBytes F bs l h a n = absurd (let w : ⊥ = omega arith in w)
-whole-code shortBytes F bs l h a n = absurd (let w : ⊥ = omega arith in w)
-whole-code packedDecimal F bs l h a n = absurd (let w : ⊥ = omega arith in w)
-whole-code hexFloat F bs l h a n = absurd (let w : ⊥ = omega arith in w)
-whole-code reversedFloat F bs l h a n = absurd (let w : ⊥ = omega arith in w)
-whole-code binaryFloat F bs l h a n = absurd (let w : ⊥ = omega arith in w)
+whole-code T F bs l h a n = go (eqb (plainCode T) 0x24) refl
+  where
+    short : allows (oneOf (2 ∷ 4 ∷ 8 ∷ [])) F ≡ true → ruleOf T .layout ≡ fixed → length bs ≤ 8
+    short z y = omega (arith, eight F z, n y)
+
+    go : (b : Bool) → eqb (plainCode T) 0x24 ≡ b → wholeOf T bs ≡ some (wholeUpTo8 bs b)
+    go true e = let q : T ≡ reversedInteger = same-plain T reversedInteger (eqb-true (plainCode T) 0x24 e) in rw q (read-reversed bs (short (rw q at a) (rw q)))
+    go false e =
+        let c : plainCode T ≡ 0x23 = omega (arith, eqb-false (plainCode T) 0x24 e) in
+        let q : T ≡ integer = same-plain T integer c in
+        rw q (read-integer bs (short (rw q at a) (rw q)))
 
 module _ (d x : List ℕ) (i : ℕ) (f : Found) (w : FoundAs (itemAt d x i) x f) where
   pub whole-refused : (f .number ≡ 0 → ⊥) → record { number = f .number; place = f .place; null = false; value = pos 0 } ≡ wholeAnswer (wholeNumber d x i)
@@ -84,26 +85,27 @@ module _ (d x : List ℕ) (i : ℕ) (f : Found) (w : FoundAs (itemAt d x i) x f)
     abbrev t : TheItem d x i f
     t = the-item d x i f w h
 
-    code-is : c ≡ plainCode (t .note .field .type)
-    code-is = plain-is d x i f w h c ec
+    type-code : c ≡ plainCode (t .note .field .type)
+    type-code = plain-is d x i f w h c ec
 
-    not-one : (r : Whole) → wholeOf (t .note .field .type) (valueOf x (t .note)) ≡ none → r ≡ wholeAnswer (refuse 18 (f .start)) → r ≡ wholeAnswer (wholeNumber d x i)
+    other : (r : Whole) → (c ≡ 0x23 → ⊥) → (c ≡ 0x24 → ⊥) → r ≡ wholeAnswer (refuse 18 (f .start)) → r ≡ wholeAnswer (wholeNumber d x i)
     unfolding wholeNumber
-    not-one r q e =
+    other r m n e =
+        let q = not-whole (t .note .field .type) (valueOf x (t .note)) (λ y. m (type-code ∙ y)) (λ y. n (type-code ∙ y)) in
         let k : wholeAnswer (refuse 18 (t .note .start)) ≡ wholeAnswer (wholeNumber d x i) = rw (t .is-item, q) in
         e ∙ ap (λ p. wholeAnswer (refuse 18 p)) (t .start-is) ∙ k
 
     pub whole-low : (r : Whole) → c < 0x23 → r ≡ wholeAnswer (refuse 18 (f .start)) → r ≡ wholeAnswer (wholeNumber d x i)
-    whole-low r l e = not-one r (not-whole (t .note .field .type) (valueOf x (t .note)) (λ q. omega (arith, code-is)) (λ q. omega (arith, code-is))) e
+    whole-low r l = other r (λ q. omega arith) (λ q. omega arith)
 
     pub whole-high : (r : Whole) → 0x24 < c → r ≡ wholeAnswer (refuse 18 (f .start)) → r ≡ wholeAnswer (wholeNumber d x i)
-    whole-high r l e = not-one r (not-whole (t .note .field .type) (valueOf x (t .note)) (λ q. omega (arith, code-is)) (λ q. omega (arith, code-is))) e
+    whole-high r l = other r (λ q. omega arith) (λ q. omega arith)
 
     module _ (least : 0x23 ≤ c) (most : c ≤ 0x24) where
       is-whole : wholeOf (t .note .field .type) (valueOf x (t .note)) ≡ some (wholeUpTo8 (valueOf x (t .note)) (eqb c 0x24))
       is-whole =
-          rw code-is
-          (whole-code (t .note .field .type) (t .note .field .size) (valueOf x (t .note)) (rw code-is at least) (rw code-is at most) (t .good .field-good .allowed)
+          rw type-code
+          (whole-code (t .note .field .type) (t .note .field .size) (valueOf x (t .note)) (rw type-code at least) (rw type-code at most) (t .good .field-good .allowed)
           (λ q. omega (arith, t .good .filled q .0, length-take (t .note .value) (drop (t .note .start + t .note .prefix) x))))
 
       pub whole-null : f .null ≡ true → record { number = 0; place = 0; null = true; value = pos 0 } ≡ wholeAnswer (wholeNumber d x i)

@@ -19,9 +19,12 @@ use fdoca::Whole;
 // The plain type codes of what is read as a number: whole numbers, X'24' byte-reversed, with no code between the two; and packed decimals.
 const INTEGER: u8 = 0x23;
 
-const REVERSED: u8 = 0x24;
+const REVERSED_INTEGER: u8 = 0x24;
 
 const PACKED: u8 = 0x30;
+
+// Where an entry's type code begins.
+const CODE: u64 = 16777216;
 
 // Where an item's value lies: so many bytes behind the data's beginning, and so long. A refusal has its number and place, and zeros.
 pub struct Lent {
@@ -122,7 +125,7 @@ pub fn state(descriptor: &[u8], data: &[u8], item: u32) -> State
         number: found.number,
         place: found.place,
         null: found.null,
-        code: (found.entry / 16777216 % 256) as u8,
+        code: (found.entry / CODE % 256) as u8,
         length: found.value as u32,
     }
 }
@@ -178,12 +181,12 @@ pub fn whole_number(descriptor: &[u8], data: &[u8], item: u32) -> Whole
             value: 0,
         };
     }
-    let code = (found.entry / 16777216 % 256) as u8;
+    let code = (found.entry / CODE % 256) as u8;
     let plain = field_types::plain_code(code);
     if plain < INTEGER {
         return not_whole(found.start);
     }
-    if REVERSED < plain {
+    if REVERSED_INTEGER < plain {
         return not_whole(found.start);
     }
     if found.null {
@@ -200,7 +203,7 @@ pub fn whole_number(descriptor: &[u8], data: &[u8], item: u32) -> Whole
         number: 0,
         place: 0,
         null: false,
-        value: numbers::read(&data[from..to], plain == REVERSED),
+        value: numbers::read(&data[from..to], plain == REVERSED_INTEGER),
     }
 }
 
@@ -254,7 +257,7 @@ pub fn packed(descriptor: &[u8], data: &[u8], item: u32) -> Decimal
     if found.number != 0 {
         return no_decimal(found.number, found.place as usize);
     }
-    let code = (found.entry / 16777216 % 256) as u8;
+    let code = (found.entry / CODE % 256) as u8;
     let plain = field_types::plain_code(code);
     if plain != PACKED {
         return no_decimal(18, found.start);

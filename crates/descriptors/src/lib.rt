@@ -1,10 +1,7 @@
 // The check of a descriptor, triplet by triplet from left to right.
 ghost use mathlib.Core.Path.{_≡_};
-ghost use Prim.Native.Nat.{_+_, _-_, _≤_, _<_};
-ghost use mathlib.Core.Bool.{true, false};
-ghost use lib.ListN.{length, getD, set, replicate};
-ghost use Rattle.fdoca.specs.Basics.{refuse};
-ghost use Rattle.fdoca.specs.Triplet.{triplets};
+ghost use Prim.Native.Nat.{_+_, _≤_, _<_};
+ghost use lib.ListN.{length, getD, replicate};
 ghost use Rattle.fdoca.specs.Check.{check};
 ghost use Rattle.fdoca.specs.Calls.{checked};
 ghost use Rattle.sdas.specs.Tables.{Agreeing};

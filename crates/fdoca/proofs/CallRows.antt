@@ -11,7 +11,7 @@ use lib.IntN.{ℤ, pos}
 use lib.ListN.{length, getElem?, length-map}
 use borrow.Author.Tests.{ltb-true, ltb-false}
 use Rattle.fdoca.specs.Basics.{if_then_else_, Result, refuse, ok, _>>=_, _>>_, reject, the}
-use Rattle.fdoca.specs.FieldType.{FieldType, fixedBytes, variableBytes, terminatedBytes, shortBytes, integer, reversedInteger, packedDecimal, hexFloat, reversedFloat, binaryFloat, plain, typeOf}
+use Rattle.fdoca.specs.FieldType.{FieldType, fixedBytes, variableBytes, terminatedBytes, shortBytes, integer, reversedInteger, packedDecimal, hexFloat, reversedFloat, binaryFloat, typeOf}
 use Rattle.fdoca.specs.Item.{Field}
 use Rattle.fdoca.specs.Walk.{Note, walk}
 use Rattle.fdoca.specs.Check.{maxDescriptor, check}
@@ -25,7 +25,7 @@ use Rattle.fdoca.proofs.Table.{not-there, is-there}
 use Rattle.fdoca.proofs.Cover.{walk-covers}
 use Rattle.fdoca.proofs.Count.{count-is-length}
 use Rattle.fdoca.proofs.Fields.{fields-good, item-good}
-use Rattle.fdoca.proofs.TypeRows.{plainCode, plain-code}
+use Rattle.fdoca.proofs.TypeRows.{plainCode, type-plain}
 use Rattle.fdoca.proofs.ItemRows.{has-plain, type-is}
 use Rattle.fdoca.proofs.FirstReasons.{Told, refused, accepted, Either, Once, once, Precedes, told-as, told-then, reject-told, the-told}
 use Rattle.fdoca.proofs.CheckRows.{check-told}
@@ -234,8 +234,7 @@ module _ (d s : List ℕ) (k : ℕ) where
     typed = item-good d s k i e .field-good .typed
 
     pub has-type : HasType (i .field) (plainCode (i .field .type))
-    unfolding typeOf
-    has-type = rw (plain-code (plain (i .field .code)) (i .field .type) typed .0) at (has-plain (i .field))
+    has-type = rw (type-plain (i .field .code) (i .field .type) typed) at (has-plain (i .field))
 
     pub starts : (q : ℕ) (f : Field) (rest : List ℕ) → StartsAt (unfolded d) s k f q rest → (i .field ≡ f) × (i .start ≡ q)
     starts q f rest x =

@@ -10,7 +10,7 @@ use mathlib.Core.List.{List, [], _∷_}
 use mathlib.Core.Option.{some}
 use lib.Dec.{eqb}
 use lib.ListN.{length, take}
-use borrow.Author.Tests.{eqb-true, leb-true, eqb-false, le-leb, lt-leb, ne-eqb}
+use borrow.Author.Tests.{eqb-true, leb-true, eqb-false, le-leb, ne-eqb}
 use Rattle.fdoca.specs.Basics.{if_then_else_, lookup, big, elem}
 use Rattle.fdoca.specs.FieldType.{FieldType, fixedBytes, variableBytes, terminatedBytes, shortBytes, integer, reversedInteger, packedDecimal, hexFloat, reversedFloat, binaryFloat, types, plain, typeOf, LengthField, signedTwo, unsignedOne, Layout, fixed, counted, terminated, ruleOf}
 use Rattle.fdoca.specs.Item.{Field, fieldLength, Measured, refused, item, Space, unbounded, limited, reserved, space, width, isNegative, isOver, indicated, beforeZero, measureValue, measureNullable, measureItem, measure}
@@ -18,7 +18,7 @@ use Rattle.fdoca.specs.Account.{FixedLength, string, binary, binary-reve
 use Rattle.fdoca.specs.Reasons as R
 use Rattle.fdoca.specs.Reasons.{OneOf, here, there, HasType, Behind, no-indicator, high-bit-0, L, of-two, of-one, Sent, NoZero, ShortData, indicator, length-two, length-one, not-yet, BadCount, NoEnd, none-zero, OfItem, short-data, bad-count, no-end}
 use Rattle.fdoca.proofs.Table.{looked-up}
-use Rattle.fdoca.proofs.TypeRows.{elem-in}
+use Rattle.fdoca.proofs.TypeRows.{elem-in, plain-low, plain-high}
 use Rattle.fdoca.proofs.Tests.{by-le, by-eq}
 use Rattle.fdoca.proofs.Account.{big-one, big-two, fixed-layout, space-none, space-limit, space-full, over, over-of}
 use Rattle.fdoca.proofs.ItemTests.{before-zero-within, sent, CutOff, Against, short, short-L, negative, over-F, short-body, no-zero, endless, Earliest, Judged, judged-map, judged-value}
@@ -39,8 +39,8 @@ pub has-plain : (f : Field) → HasType f (plain (f .code))
 has-plain f = by-le (HasType f) 128 (f .code) (λ h. there (here (omega arith))) (λ h. here refl)
 
 plain-of : (c n : ℕ) → c < 128 → OneOf n (c ∷ (c + 0x80) ∷ []) → plain n ≡ c
-plain-of c n h (here e) = rw (e, lt-leb 128 c h)
-plain-of c n h (there (here e)) = rw (e, le-leb 128 (c + 0x80) (omega arith)) (omega arith)
+plain-of c n h (here e) = rw e (sym (plain-low c h))
+plain-of c n h (there (here e)) = rw e (omega (arith, plain-high (c + 0x80) (omega arith)))
 
 -- the code that a layout's types have, nullable or not
 abbrev fixedCodes : List ℕ

@@ -51,7 +51,7 @@ module _ {A : Type 0} (P : ℕ → A → Bool) where
           rw (k, l) (and-left (P (x .0) (x .1)) (every es) h)
       go false t e ih = ih e
 
--- what holds of every entry holds of the one that is looked up; a number that is not found has none
+-- what holds of every entry holds of the one that is looked up; a number is not found exactly where no entry has it
 module _ {A : Type 0} where
   infixr 20 _&_
   pub data Every (Q : ℕ → A → Type 0) : List (ℕ × A) → Type 0 where

@@ -12,7 +12,7 @@ use lib.Dec.{leb, ltb, eqb}
 use lib.ListN.{getD}
 use borrow.Author.Tests.{ltb-true, leb-true, le-leb, lt-leb, eqb-true, eq-eqb}
 use Rattle.fdoca.specs.Basics.{if_then_else_, elem, lookup}
-use Rattle.fdoca.specs.FieldType.{FieldType, fixedBytes, variableBytes, terminatedBytes, shortBytes, integer, reversedInteger, packedDecimal, hexFloat, reversedFloat, binaryFloat, types, nullable, plain, typeOf, Size, bytes, digits, oneOf, sizeOf, Rule, allows, ruleOf, lengthThatHolds, sizeThatHolds}
+use Rattle.fdoca.specs.FieldType.{FieldType, fixedBytes, variableBytes, terminatedBytes, shortBytes, integer, reversedInteger, packedDecimal, hexFloat, reversedFloat, binaryFloat, types, plain, typeOf, Size, bytes, digits, oneOf, sizeOf, Rule, allows, ruleOf, lengthThatHolds, sizeThatHolds}
 use Rattle.fdoca.specs.Triplet.{biasOf, modeOf, sizeIn}
 use Rattle.fdoca.specs.Check.{most, goodParameters, goodType}
 use Rattle.fdoca.specs.Reasons as R
@@ -58,6 +58,13 @@ pub plain-code : (c : ℕ) (T : FieldType) → lookup c types ≡ some T → (c 
 plain-code c T h =
     let f = looked-up (λ c T. eqb c (plainCode T) && ltb c 128) c types T refl h in
     (eqb-true c (plainCode T) (and-left (eqb c (plainCode T)) (ltb c 128) f), ltb-true c 128 (and-right (eqb c (plainCode T)) (ltb c 128) f))
+
+-- the plain code of a code, by the form that it is
+pub plain-low : (c : ℕ) → c < 128 → c ≡ plain c
+plain-low c h = rw (lt-leb 128 c h)
+
+pub plain-high : (c : ℕ) → 128 ≤ c → c - 128 ≡ plain c
+plain-high c h = rw (le-leb 128 c h)
 
 -- the plain code of a type's code is the type's
 pub type-plain : (c : ℕ) (T : FieldType) → typeOf c ≡ some T → plain c ≡ plainCode T

@@ -84,5 +84,5 @@ unfoldable pub encoded : Option FieldType → Rule
 encoded o = inNumbers (ruleFor o)
 
 -- The rule of the type that a plain code stands for.
-unfoldable pub ruleAt : (plain : ℕ) → Rule
-ruleAt plain = encoded (lookup plain types)
+unfoldable pub ruleAt : (code : ℕ) → Rule
+ruleAt code = encoded (lookup code types)

@@ -1,6 +1,5 @@
 // Field types (document 01, "Field types"; document 02, Q-1 to Q-3): the plain code of a type code, the rule that it finds, the size that holds for an SDA's type parameters, and their test.
 ghost use mathlib.Core.Path.{_≡_};
-ghost use Prim.Native.Nat.{_<_};
 ghost use lib.ListN.{length};
 ghost use Rattle.fdoca.specs.FieldType.{plain};
 ghost use Rattle.field_types.specs.Rows.{ruleAt};
@@ -188,10 +187,10 @@ pub fn plain_code(code: u8) -> u8
 }
 
 // The rule that a plain code finds; where it finds none, that of row 0. Each index is a constant, so that the table is never copied to be read.
-fn rule_at(plain: u8) -> Rule
-    ensures { λ r. ⌜ r ≡ ruleAt plain ⌝ }
+fn rule_at(code: u8) -> Rule
+    ensures { λ r. ⌜ r ≡ ruleAt code ⌝ }
 {
-    match plain {
+    match code {
         0x01 => RULES[1],
         0x02 => RULES[2],
         0x03 => RULES[3],
