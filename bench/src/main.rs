@@ -4,7 +4,8 @@
 //! Where the stack and the code happen to lie changes the times, so many processes
 //! of each program named by the arguments measure, and the table has their medians.
 //! The programs differ in where the library's code lies. Those behind `--beside` are
-//! another state's: they measure by turns with the others, and have a table of their own.
+//! another work tree's: they measure by turns with the others, and have a table of their
+//! own.
 
 mod fast;
 mod inputs;
@@ -20,10 +21,16 @@ use std::process::Command;
 use measure::Measurement;
 use timing::{geometric_mean, median, Timing};
 
-/// Of each program. The stack of each lies elsewhere.
+/// Processes of each program: where the system places the stack at random, it lies elsewhere in each.
 const PROCESSES: usize = 25;
 const MEASURE: &str = "--measure";
 const BESIDE: &str = "--beside";
+
+/// The programs of a work tree, and what each of their processes measured.
+struct Tree<'a> {
+    programs: &'a [PathBuf],
+    runs: Vec<Vec<Measurement>>,
+}
 
 fn main() -> io::Result<()> {
     let mut arguments: Vec<PathBuf> = env::args_os().skip(1).map(PathBuf::from).collect();
@@ -34,30 +41,32 @@ fn main() -> io::Result<()> {
     if arguments.is_empty() {
         arguments.push(env::current_exe()?);
     }
-    let states: Vec<&[PathBuf]> = arguments.split(|word| word == Path::new(BESIDE)).collect();
-    let mut runs: Vec<Vec<Vec<Measurement>>> = vec![Vec::new(); states.len()];
+    let mut trees: Vec<Tree> = arguments
+        .split(|word| word == Path::new(BESIDE))
+        .map(|programs| Tree {
+            programs,
+            runs: Vec::new(),
+        })
+        .collect();
     for _ in 0..PROCESSES {
-        for (programs, runs) in states.iter().zip(&mut runs) {
-            for program in *programs {
-                runs.push(measure_in_process(program)?);
+        for tree in &mut trees {
+            for program in tree.programs {
+                tree.runs.push(measure_in_process(program)?);
             }
         }
     }
-    for (programs, runs) in states.iter().zip(&runs) {
-        print_state(programs, runs);
-    }
+    trees.iter().for_each(print_tree);
     Ok(())
 }
 
-/// The table of a state, by what the processes of its programs measured.
-fn print_state(programs: &[PathBuf], runs: &[Vec<Measurement>]) {
-    let Some(measured) = runs.first() else {
+fn print_tree(tree: &Tree) {
+    let Some(first) = tree.runs.first() else {
         return;
     };
-    let rows: Vec<Measurement> = (0..measured.len())
-        .map(|row| median_of_runs(runs, row))
+    let rows: Vec<Measurement> = (0..first.len())
+        .map(|row| median_of_runs(&tree.runs, row))
         .collect();
-    println!("{}", programs[0].display());
+    println!("{}", tree.programs[0].display());
     print_table(&rows);
 }
 

@@ -55,3 +55,13 @@ run bench
 holds 'the benchmark, a source changed' gave 1 'archive 5'
 run bench
 holds 'the benchmark, nothing changed' called 'check panel'
+run "$repo/bench/run" "$work/nowhere"
+holds 'the benchmark, no such tree beside' gave 2 ''
+holds 'the benchmark, no such tree, nothing called' called ''
+run "$repo/bench/run" one two
+holds 'the benchmark, two trees beside' gave 2 ''
+mkdir -p "$work/beside"
+cp -R "$repo"/{bench,crates,crates.txt,tools} "$work/beside"
+echo 'archive 6' >"$work/beside/crates/panel/src/lib.rt"
+run "$repo/bench/run" "$work/beside"
+holds 'the benchmark, a tree beside' gave 1 'archive 6'

@@ -7,13 +7,15 @@ use crate::compare::Comparison;
 /// Field lengths, and digits with fraction digits: each carried type has one of them.
 const SIZES: [u16; 6] = [0, 2, 4, 8, 16, 0x0302];
 
-/// A packed decimal of three digits, and a string of two bytes behind its length, with more bytes
-/// behind each: no number is the same in both byte orders.
-const VALUES: [[u8; 17]; 2] = [
+/// A packed decimal of three digits, a string of two bytes behind a two-byte length, and one
+/// behind a one-byte length and before a zero byte, each with more bytes behind: no number is the
+/// same in both byte orders.
+const VALUES: [[u8; 17]; 3] = [
     [
         0x12, 0x3C, 3, 4, 5, 6, 7, 8, 9, 10, 11, 12, 13, 14, 15, 16, 17,
     ],
     [0, 2, 3, 4, 0, 6, 7, 8, 9, 10, 11, 12, 13, 14, 15, 16, 17],
+    [2, 3, 4, 0, 5, 6, 7, 8, 9, 10, 11, 12, 13, 14, 15, 16, 17],
 ];
 
 pub fn every_code(comparison: &mut Comparison) {
