@@ -100,6 +100,7 @@ type-of-plain hexFloat = refl
 type-of-plain reversedFloat = refl
 type-of-plain binaryFloat = refl
 
+-- no two types have one plain code
 pub same-plain : (T U : FieldType) → plainCode T ≡ plainCode U → T ≡ U
 same-plain T U e = Option·some-injective T U (sym (type-of-plain T) ∙ ap (λ c. lookup c types) e ∙ type-of-plain U)
 
