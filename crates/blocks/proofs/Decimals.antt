@@ -25,7 +25,7 @@ use Rattle.fdoca.proofs.TypeRows.{plainCode, same-plain}
 use Rattle.fdoca.proofs.Fields.{digits-packed, packed-digits}
 use Rattle.numbers.specs.declared.Unpacked.{Unpacked}
 use Rattle.numbers.specs.Packed.{unpacked}
-use Rattle.plans.specs.Plan.{digitsPart}
+use Rattle.fields.specs.Plan.{digitsPart}
 use Rattle.walks.specs.declared.Found.{Found}
 use Rattle.walks.specs.Finding.{foundOf}
 use Rattle.lookups.specs.Answer.{FoundAs}

@@ -13,7 +13,7 @@ use Rattle.fdoca.specs.Calls.{itemAt, valueOf, stateOf}
 use Rattle.fdoca.proofs.TypeRows.{plainCode, type-plain}
 use Rattle.fdoca.proofs.Fields.{GoodNote, item-good}
 use Rattle.fdoca.proofs.Numbers.{item-number}
-use Rattle.plans.specs.Plan.{digitsPart}
+use Rattle.fields.specs.Plan.{digitsPart}
 use Rattle.walks.specs.declared.Found.{Found}
 use Rattle.walks.specs.Finding.{foundOf}
 use Rattle.lookups.specs.Answer.{FoundAs}

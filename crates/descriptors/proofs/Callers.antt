@@ -1,6 +1,6 @@
 -- What a caller knows of an examined descriptor: its refusal, and that a plan of as many entries as there are items stands for the unfolding.
 -- Assumes nothing.
-use mathlib.Core.Path.{_≡_, refl, sym, ap, _∙_}
+use mathlib.Core.Path.{_≡_, sym, ap, _∙_}
 use Prim.Native.Nat.{ℕ, _≤_}
 use native.Mathlib.Omega.{arith}
 use mathlib.Core.List.{List, map}
@@ -10,7 +10,7 @@ use Rattle.fdoca.specs.Basics.{Result, refuse, ok}
 use Rattle.fdoca.specs.Check.{check}
 use Rattle.fdoca.specs.Unfolding.{unfolded}
 use Rattle.fdoca.specs.Calls.{checked}
-use Rattle.plans.specs.Plan.{entryOf, Planned}
+use Rattle.fields.specs.Plan.{entryOf, Planned}
 use Rattle.plans.specs.Tied.{describedBy, listOf}
 use Rattle.plans.proofs.Fields.{planned, first-numbers}
 use Rattle.descriptors.specs.declared.Examined.{Examined}

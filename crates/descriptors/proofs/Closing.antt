@@ -1,20 +1,18 @@
 -- A row that ends: the list that its triplets make, where it is kept, and the tables with it.
 -- Assumes nothing.
 use mathlib.Core.Path.{_≡_, refl, sym, ap, _∙_, subst}
-use mathlib.Core.Logic.{_≢_}
-use Prim.Native.Nat.{ℕ, _+_, _-_, _/_, _%_, _≤_, _<_}
+use Prim.Native.Nat.{ℕ, zero, _+_, _-_, _/_, _%_, _≤_, _<_}
 use native.Mathlib.Omega.{arith}
-use mathlib.Core.Bool.{true, false, true≢false}
 use mathlib.Core.List.{List, [], _∷_, append-nil}
 use mathlib.Core.Option.{Option, none, some}
 use lib.ListN.{length, getD, set, drop}
 use lib.Seq.{getD-set-same}
 use Rattle.fdoca.specs.Basics.{lookup}
-use Rattle.fdoca.specs.Triplet.{Group}
+use Rattle.fdoca.specs.Triplet.{Kind, rowLayout, Group}
 use Rattle.fdoca.specs.Item.{Field}
 use Rattle.fdoca.specs.Unfolding.{Described, array, row, groupFields, addFields, Layouts, closeRow}
 use Rattle.fdoca.specs.Between.{entry}
-use Rattle.plans.specs.Tied.{groupsIn, groupsAt, Groups, Takes, all}
+use Rattle.plans.specs.Tied.{groupsIn, kindAt, groupsAt, Groups, Takes, all, Makes, of-row}
 use Rattle.sdas.specs.Tables.{Entered}
 use Rattle.descriptors.specs.declared.Step.{Step}
 use Rattle.descriptors.specs.Holds.{RefersIn, RowIn, KeptIn, Tables, EndsAt, MakesSame, RowSoFar, Current, Last, Holds, Held, ClosedRow}
@@ -25,7 +23,7 @@ use Rattle.descriptors.proofs.Grow.{grows, row-up, tables-put}
 pub ended : (d s : List ℕ) (ds : List (ℕ × Described)) (p at : ℕ) (l : List Field) → EndsAt d p → RowSoFar d s ds p at l → RowIn d s ds at l
 ended d s ds p at l h r =
     let e : groupsAt d at ≡ r .groups = r .all ∙ rw (ends-none d p h) (append-nil (r .groups)) in
-    record { head = r .head; fields = r .fields ∙ ap (addFields ds []) (sym e); groups = r .rest (ends-all (RefersIn s ds at) d p h) }
+    record { head = r .head; fields = r .fields ∙ ap (addFields (kindAt d at) ds []) (sym e); groups = r .rest (ends-all (RefersIn (kindAt d at) s ds at) d p h) }
 
 -- a row is kept at its own place
 pub own-place : (d s e : List ℕ) (at p q : ℕ) → q ≡ at → MakesSame d s e at p q
@@ -39,7 +37,7 @@ module _ (d s e : List ℕ) (at p i : ℕ) (size : p - at ≡ 6) (once : getD d 
 
   -- its only group
   g : Group
-  g = record { ref = getD d (at + 3) 0; taken = getD d (at + 3 + 1) 0; factor = getD d (at + 3 + 2) 0 }
+  g = record { ref = getD d (at + 3) 0; byte1 = getD d (at + 3 + 1) 0; byte2 = getD d (at + 3 + 2) 0 }
 
   only-group : at + 6 ≤ length d → EndsAt d p → groupsAt d at ≡ g ∷ []
   unfolding groupsAt groupsIn g
@@ -51,29 +49,32 @@ module _ (d s e : List ℕ) (at p i : ℕ) (size : p - at ≡ 6) (once : getD d 
   unfolding Groups g
   only-refers P h k = rw (own, three d (at + 3) (omega arith)) at k .0
 
-  -- another row once: its list is the other's
+  -- another row once: its list is the other's; a GDA refers to no row
   pub other-place : (v : ℕ) → v ≡ getD s i 0 → p ≤ length d → MakesSame d s e at p v
   unfolding g addFields
   other-place v ev hp =
       record {
         same = λ z ds l h t r.
-            let w : RefersIn s ds at g = only-refers (RefersIn s ds at) (omega arith) (r .groups) in
-            go z ds l h t r w (w .to) (getD d (at + 3 + 1) 0) refl (w .known) (w .takes);
+            let w : RefersIn (kindAt d at) s ds at g = only-refers (RefersIn (kindAt d at) s ds at) (omega arith) (r .groups) in
+            go z ds l h t r (w .back) (w .to) (kindAt d at) refl (w .known) (w .makes);
       }
     where
-      go : (z : List ℕ) (ds : List (ℕ × Described)) (l : List Field) → EndsAt d p → Tables d s z e ds p → RowIn d s ds at l → RefersIn s ds at g
-          → (D : Described) (k : ℕ) → getD d (at + 3 + 1) 0 ≡ k → lookup (getD d (at + 3) 0) ds ≡ some D → Takes k D → (v ≤ at) × RowIn d s ds v l
-      go z ds l h t r w (array f xs) k ek q tk =
+      go : (z : List ℕ) (ds : List (ℕ × Described)) (l : List Field) → EndsAt d p → Tables d s z e ds p → RowIn d s ds at l → getD s (getD d (at + 3) 0) 0 < at
+          → (D : Described) (k : Kind) → kindAt d at ≡ k → lookup (getD d (at + 3) 0) ds ≡ some D → Makes k g D → (v ≤ at) × RowIn d s ds v l
+      go z ds l h t r back (array f xs) k ek q m =
           let m : 0 < getD e (getD d (at + 3) 0) 0 = t .placed (getD d (at + 3) 0) (array f xs) q .kept .marked in
           let n : getD e (getD d (at + 3) 0) 0 ≡ 0 = rw ref at unmarked in
           absurd (let y : ⊥ = omega arith in y)
-      go z ds l h t r w (row l′) k ek q all =
+      go z ds l h t r back (row l′) rowLayout ek q (of-row f m) =
           let x : RowIn d s ds (getD s (getD d (at + 3) 0) 0) l′ = t .placed (getD d (at + 3) 0) (row l′) q .kept .made in
           let ei : v ≡ getD s (getD d (at + 3) 0) 0 = ev ∙ ap (λ n. getD s n 0) ref in
           let f : at + 3 + 2 ≡ at + 5 = omega arith in
-          let c : groupFields ds g ≡ l′ = rw (q, ek, f, once) (append-nil l′) in
-          let el : l ≡ l′ = r .fields ∙ ap (addFields ds []) (only-group (omega arith) h) ∙ c in
-          rw (ei, el) (omega (arith, w .back), x)
+          let c : groupFields rowLayout ds g ≡ l′ = rw (q, all-taken (getD d (at + 3 + 1) 0) m, f, once) (append-nil l′) in
+          let el : l ≡ l′ = r .fields ∙ ap (addFields (kindAt d at) ds []) (only-group (omega arith) h) ∙ rw ek c in
+          rw (ei, el) (omega arith, x)
+        where
+          all-taken : (k : ℕ) → Takes k (row l′) → k ≡ 0
+          all-taken zero all = refl
 
 -- the size of a row
 row-size : (n : ℕ) → n ≤ 4096 → (n % 65536 ≡ n) × (n / 65536 ≡ 0)
@@ -81,13 +82,13 @@ row-size n h = (omega arith, omega arith)
 
 -- The tables with the row of the step before, which ends at p, or as they were where there is none.
 module _ (d s z e : List ℕ) (p : ℕ) (x : Step) where
-  pub close-row : (q id count : ℕ) → id ≡ x .id → count ≡ x .count → x .row ≡ true → (length d ≤ 4096) → MakesSame d s e (x .at) p q
+  pub close-row : (q id count : ℕ) → id ≡ x .id → count ≡ x .count → (x .head ≡ 0 → ⊥) → (length d ≤ 4096) → MakesSame d s e (x .at) p q
       → ClosedRow d s z e (set s id q) (set z id count) (set e id 0) p x
   close-row q id count ei ec xr small m = record { tables = λ u h k. go u h k (u .current) (h .current) (h .last) }
     where
-      go : (u : Layouts) → Holds d s z e p x u → EndsAt d p → (o : Option (ℕ × List Field)) → Current d s (u .described) p x o → Last x (closeRow (u .described) o)
+      go : (u : Layouts) → Holds d s z e p x u → EndsAt d p → (o : Option (ℕ × List Field × Kind)) → Current d s (u .described) p x o → Last x (closeRow (u .described) o)
           → Tables d (set s id q) (set z id count) (set e id 0) (closeRow (u .described) o) p
-      go u h k none c l = absurd (true≢false (sym xr ∙ c))
+      go u h k none c l = absurd (xr c)
       go u h k (some r) c l =
           let i : id ≡ r .0 = ei ∙ c .same-id in
           let n : count ≡ length (r .1) = ec ∙ l .2 in
@@ -98,7 +99,7 @@ module _ (d s z e : List ℕ) (p : ℕ) (x : Step) where
           let big : count ≤ 4096 = omega (arith, h .small) in
           let sz = row-size count big in
           let g : lookup id (u .described) ≡ none = rw i (c .free) in
-          let y : Entered q count (entry (row (r .1))) = record { here = λ v. omega (arith, h .there); count = sz .0 ∙ n; lower = sz .1; positive = tt } in
+          let y : Entered q count 0 (entry (row (r .1))) = record { here = λ v. omega (arith, h .there); count = sz .0 ∙ n; lower = sz .1; positive = tt; coded = refl } in
           let j : KeptIn d (set s id q) (set z id count) (set e id 0) ((id, row (r .1)) ∷ u .described) id (row (r .1)) =
           record {
             unmarked = getD-set-same e id 0 0 (omega (arith, f, i, h .tables .sizes .2));
@@ -108,24 +109,24 @@ module _ (d s z e : List ℕ) (p : ℕ) (x : Step) where
           subst (λ v. Tables d (set s id q) (set z id count) (set e id 0) ((v, row (r .1)) ∷ u .described) p) i
           (tables-put d s z e (u .described) p (h .tables) id q count 0 (row (r .1)) g (omega (arith, f, i)) p (omega arith) lt y j)
 
-  pub close-none : x .row ≡ false → ClosedRow d s z e s z e p x
+  pub close-none : x .head ≡ 0 → ClosedRow d s z e s z e p x
   close-none xr = record { tables = λ u h k. go u h (u .current) (h .current) }
     where
-      go : (u : Layouts) → Holds d s z e p x u → (o : Option (ℕ × List Field)) → Current d s (u .described) p x o → Tables d s z e (closeRow (u .described) o) p
+      go : (u : Layouts) → Holds d s z e p x u → (o : Option (ℕ × List Field × Kind)) → Current d s (u .described) p x o → Tables d s z e (closeRow (u .described) o) p
       go u h none c = h .tables
-      go u h (some r) c = absurd (true≢false (sym (c .at-hand) ∙ xr))
+      go u h (some r) c = absurd (c .at-hand xr)
 
-  row-fits : Held d s z e p x → x .row ≡ true → (6 ≤ getD d (x .at) 0) × (x .at + getD d (x .at) 0 ≤ p)
+  row-fits : Held d s z e p x → (x .head ≡ 0 → ⊥) → (6 ≤ getD d (x .at) 0) × (x .at + getD d (x .at) 0 ≤ p)
   row-fits h xr = go (h .0 .current) (h .1 .current)
     where
-      go : (o : Option (ℕ × List Field)) → Current d s (h .0 .described) p x o → (6 ≤ getD d (x .at) 0) × (x .at + getD d (x .at) 0 ≤ p)
-      go none c = absurd (true≢false (sym xr ∙ c))
+      go : (o : Option (ℕ × List Field × Kind)) → Current d s (h .0 .described) p x o → (6 ≤ getD d (x .at) 0) × (x .at + getD d (x .at) 0 ≤ p)
+      go none c = absurd (xr c)
       go (some r) c = (c .so-far .long, c .so-far .before)
 
-  pub row-long : Held d s z e p x → x .row ≡ true → 6 ≤ getD d (x .at) 0
+  pub row-long : Held d s z e p x → (x .head ≡ 0 → ⊥) → 6 ≤ getD d (x .at) 0
   row-long h xr = row-fits h xr .0
 
-  pub row-before : Held d s z e p x → x .row ≡ true → x .at + getD d (x .at) 0 ≤ p
+  pub row-before : Held d s z e p x → (x .head ≡ 0 → ⊥) → x .at + getD d (x .at) 0 ≤ p
   row-before h xr = row-fits h xr .1
 
   pub held-small : Held d s z e p x → length d ≤ 4096 → p ≤ 4096

@@ -14,7 +14,7 @@ use mir.Syntax.{w64}
 use mir.Val.{Fits}
 use borrow.Author.Tests.{lt-ltb, le-ltb, eq-eqb}
 use Rattle.fdoca.specs.Basics.{lookup, ok, _>>=_, _>>_}
-use Rattle.fdoca.specs.Triplet.{triplets, Group}
+use Rattle.fdoca.specs.Triplet.{triplets, Kind, Group}
 use Rattle.fdoca.specs.Item.{Field}
 use Rattle.fdoca.specs.Check.{checkTriplets, lastCount, check}
 use Rattle.fdoca.specs.Check as C
@@ -22,7 +22,7 @@ use Rattle.fdoca.specs.Unfolding.{Described, array, row, fieldsOf, Layouts, clo
 use Rattle.fdoca.proofs.Triplets.{triplets-end}
 use Rattle.fdoca.specs.Between.{entries, state}
 use Rattle.fdoca.proofs.Count.{closed-state, length-fieldsOf}
-use Rattle.plans.specs.Tied.{Refers, RowAt, Kept, Tied, describedBy, listOf, rowList}
+use Rattle.plans.specs.Tied.{kindAt, Refers, RowAt, Kept, Tied, describedBy, listOf, rowList}
 use Rattle.descriptors.specs.declared.Step.{Step}
 use Rattle.descriptors.specs.declared.Examined.{Examined}
 use Rattle.descriptors.specs.Holds.{RefersIn, RowIn, KeptIn, Tables, no-head, Last, Holds, Held, ClosedRow, Bare, Advanced, Ready, lastId, examined, Examination}
@@ -110,9 +110,9 @@ module _ (d s z e : List ℕ) (p : ℕ) (x : Step) where
       tables : Tables d s′ z′ e′ (closed u) p
       tables = cl .tables u h (no-head (omega arith))
 
-      refers-all : (q : ℕ) (g : Group) → RefersIn s′ (closed u) q g → Refers d s′ q g
-      refers-all q g w =
-          record { to = w .to; known = rw all-described (w .known); back = w .back; id-fits = w .id-fits; repeats = w .repeats; takes = w .takes }
+      refers-all : (kind : Kind) (q : ℕ) (g : Group) → RefersIn kind s′ (closed u) q g → Refers kind d s′ q g
+      refers-all kind q g w =
+          record { to = w .to; known = rw all-described (w .known); back = w .back; id-fits = w .id-fits; makes = w .makes }
 
       row-at : (q : ℕ) (l : List Field) → RowIn d s′ (closed u) q l → RowAt d s′ q l
       unfolding rowList
@@ -120,7 +120,7 @@ module _ (d s z e : List ℕ) (p : ℕ) (x : Step) where
           record {
             head = w .head;
             fields = rw all-described (w .fields);
-            groups = groups-map (λ g k. refers-all q g k) (getD d q 0 - 3) (drop (q + 3) d) (w .groups);
+            groups = groups-map (λ g k. refers-all (kindAt d q) q g k) (getD d q 0 - 3) (drop (q + 3) d) (w .groups);
           }
 
       kept-all : (i : ℕ) (D : Described) → KeptIn d s′ z′ e′ (closed u) i D → Kept d s′ z′ e′ i D

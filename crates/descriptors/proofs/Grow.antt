@@ -11,11 +11,11 @@ use lib.ListN.{getD, set, drop, length-set}
 use lib.Seq.{getD-set-same, getD-set-other}
 use borrow.Author.Tests.{ne-eqb, eqb-true, eqb-false}
 use Rattle.fdoca.specs.Basics.{if_then_else_, lookup}
-use Rattle.fdoca.specs.Triplet.{Group}
+use Rattle.fdoca.specs.Triplet.{Kind, Group}
 use Rattle.fdoca.specs.Item.{Field}
 use Rattle.fdoca.specs.Unfolding.{Described, array, row, groupFields, addFields}
 use Rattle.fdoca.specs.Between.{entry, entries}
-use Rattle.plans.specs.Tied.{groupsAt}
+use Rattle.plans.specs.Tied.{kindAt, groupsAt}
 use Rattle.sdas.specs.Tables.{KeptAs, Entered}
 use Rattle.descriptors.specs.Holds.{RefersIn, RowIn, KeptIn, Placed, Tables}
 use Rattle.descriptors.proofs.Rows.{AllGroups, groups-all, groups-map}
@@ -25,27 +25,27 @@ pub record Grows (s s′ : List ℕ) (ds ds′ : List (ℕ × Described)) : Type
   pub still : (i : ℕ) (D : Described) → lookup i ds ≡ some D → (lookup i ds′ ≡ some D) × (getD s′ i 0 ≡ getD s i 0)
 
 module _ (s s′ : List ℕ) (ds ds′ : List (ℕ × Described)) (up : Grows s s′ ds ds′) where
-  pub refers-up : (p : ℕ) (g : Group) → RefersIn s ds p g → RefersIn s′ ds′ p g
-  refers-up p g r =
+  pub refers-up : (kind : Kind) (p : ℕ) (g : Group) → RefersIn kind s ds p g → RefersIn kind s′ ds′ p g
+  refers-up kind p g r =
       let w = up .still (g .ref) (r .to) (r .known) in
-      record { to = r .to; known = w .0; back = rw (w .1) (r .back); id-fits = r .id-fits; repeats = r .repeats; takes = r .takes }
+      record { to = r .to; known = w .0; back = rw (w .1) (r .back); id-fits = r .id-fits; makes = r .makes }
 
-  pub fields-up : (p : ℕ) (l : List Field) (gs : List Group) → AllGroups (RefersIn s ds p) gs → addFields ds l gs ≡ addFields ds′ l gs
+  pub fields-up : (kind : Kind) (p : ℕ) (l : List Field) (gs : List Group) → AllGroups (RefersIn kind s ds p) gs → addFields kind ds l gs ≡ addFields kind ds′ l gs
   unfolding addFields
-  fields-up p l [] a = refl
-  fields-up p l (g ∷ gs) a =
+  fields-up kind p l [] a = refl
+  fields-up kind p l (g ∷ gs) a =
       let r = a .0 in
       let w = up .still (g .ref) (r .to) (r .known) in
-      let e : groupFields ds g ≡ groupFields ds′ g = rw (r .known, w .0) in
-      rw e (fields-up p (l ++ groupFields ds′ g) gs (a .1))
+      let e : groupFields kind ds g ≡ groupFields kind ds′ g = rw (r .known, w .0) in
+      rw e (fields-up kind p (l ++ groupFields kind ds′ g) gs (a .1))
 
   pub row-up : (d : List ℕ) (p : ℕ) (l : List Field) → RowIn d s ds p l → RowIn d s′ ds′ p l
   unfolding groupsAt
   row-up d p l r =
       record {
         head = r .head;
-        fields = r .fields ∙ fields-up p [] (groupsAt d p) (groups-all (RefersIn s ds p) (getD d p 0 - 3) (drop (p + 3) d) (r .groups));
-        groups = groups-map (λ g x. refers-up p g x) (getD d p 0 - 3) (drop (p + 3) d) (r .groups);
+        fields = r .fields ∙ fields-up (kindAt d p) p [] (groupsAt d p) (groups-all (RefersIn (kindAt d p) s ds p) (getD d p 0 - 3) (drop (p + 3) d) (r .groups));
+        groups = groups-map (λ g x. refers-up (kindAt d p) p g x) (getD d p 0 - 3) (drop (p + 3) d) (r .groups);
       }
 
 -- another id than a new one
@@ -83,13 +83,13 @@ module _ (d s z e : List ℕ) (ds : List (ℕ × Described)) (p : ℕ) (t : Tabl
   kept-up i (array f xs) n k =
       let ee : getD e′ i 0 ≡ getD e i 0 = getD-set-other e j i ent 0 n in
       let ez : getD z′ i 0 ≡ getD z i 0 = getD-set-other z j i size 0 n in
-      record { entry = ee ∙ k .entry; marked = rw ee (k .marked); proper = k .proper; count = rw ez (k .count); lower = rw ez (k .lower) }
+      record { entry = ee ∙ k .entry; marked = rw ee (k .marked); proper = k .proper; typed = k .typed; count = rw ez (k .count); lower = rw ez (k .lower) }
   kept-up i (row l) n k =
       let ee : getD e′ i 0 ≡ getD e i 0 = getD-set-other e j i ent 0 n in
       let es : getD s′ i 0 ≡ getD s i 0 = getD-set-other s j i v 0 n in
       record { unmarked = ee ∙ k .unmarked; made = rw es (row-up s s′ ds ds′ grows d (getD s i 0) l (k .made)) }
 
-  pub tables-put : (q : ℕ) → p ≤ q → v < q → Entered v size (entry D) → KeptIn d s′ z′ e′ ds′ j D → Tables d s′ z′ e′ ds′ q
+  pub tables-put : (q : ℕ) → p ≤ q → v < q → Entered v size ent (entry D) → KeptIn d s′ z′ e′ ds′ j D → Tables d s′ z′ e′ ds′ q
   tables-put q h l x k =
       record {
         agrees = λ i w. go-agrees i w (eqb i j) refl;
@@ -103,12 +103,15 @@ module _ (d s z e : List ℕ) (ds : List (ℕ × Described)) (p : ℕ) (t : Tabl
       same-z : getD z′ j 0 ≡ size
       same-z = getD-set-same z j size 0 (omega (arith, t .sizes .1))
 
+      same-e : getD e′ j 0 ≡ ent
+      same-e = getD-set-same e j ent 0 (omega (arith, t .sizes .2))
+
       go-agrees : (i : ℕ) → i < 256 → (b : Bool) → eqb i j ≡ b
-          → KeptAs (getD s′ i 0) (getD z′ i 0) (if b then some (entry D) else lookup i (entries ds))
-      go-agrees i w true f = let n : i ≡ j = eqb-true i j f in rw (n, same-s, same-z) x
+          → KeptAs (getD s′ i 0) (getD z′ i 0) (getD e′ i 0) (if b then some (entry D) else lookup i (entries ds))
+      go-agrees i w true f = let n : i ≡ j = eqb-true i j f in rw (n, same-s, same-z, same-e) x
       go-agrees i w false f =
           let n : i ≡ j → ⊥ = eqb-false i j f in
-          rw (getD-set-other s j i v 0 n, getD-set-other z j i size 0 n) (t .agrees i w)
+          rw (getD-set-other s j i v 0 n, getD-set-other z j i size 0 n, getD-set-other e j i ent 0 n) (t .agrees i w)
 
       go-placed : (i : ℕ) (E : Described) (b : Bool) → eqb i j ≡ b → (if b then some D else lookup i ds) ≡ some E → Placed d s′ z′ e′ ds′ q i E
       go-placed i E true f w =

@@ -1,7 +1,7 @@
 -- From the triplet at p to the next: what the check has come to, and what is known there.
 -- Assumes nothing.
 use mathlib.Core.Path.{_≡_, refl, sym, ap, _∙_}
-use mathlib.Core.Logic.{_≢_}
+use mathlib.Core.Logic.{_≢_, _⊎_, inl, inr}
 use Prim.Native.Nat.{ℕ, zero, suc, _+_, _-_, _*_, _/_, _%_, _≤_, _<_}
 use native.Mathlib.Omega.{arith}
 use native.Mathlib.Nat.{mul-zero}
@@ -13,25 +13,26 @@ use lib.ListN.{length, getD, set, take, drop, length-drop, length-replicate}
 use lib.Seq.{getD-set-same, length-take-le, getD-take, getD-drop}
 use borrow.Author.Tests.{eq-eqb, ne-eqb, eqb-true}
 use Rattle.fdoca.specs.Basics.{product, lookup, isSome, refuse, ok, _>>=_, _>>_}
-use Rattle.fdoca.specs.Triplet.{torn, triplet, triplets, constructOf, idOf, codeOf, extentsOf, Group, groupsOf}
+use Rattle.fdoca.specs.Triplet.{torn, triplet, triplets, Kind, constructOf, idOf, codeOf, extentsOf, Group, groupsOf}
 use Rattle.fdoca.specs.FieldType.{FieldType, typeOf}
 use Rattle.fdoca.specs.Item.{Field}
-use Rattle.fdoca.specs.Check.{Entry, State, isDescribed, goodLengthSDA, goodSDA, goodLengthRow, addGroups, checkSDA, checkRLO, checkCPT, checkISD, checkConstruct, checkTriplet, checkTriplets, begin}
+use Rattle.fdoca.specs.Check.{Entry, State, isDescribed, goodLengthSDA, goodSDA, goodLengthRow, addGroups, checkSDA, checkRow, checkCPT, checkISD, checkConstruct, checkTriplet, checkTriplets, begin}
 use Rattle.fdoca.specs.Check as C
-use Rattle.fdoca.specs.Unfolding.{Described, array, fieldOf, groupFields, addFields, Layouts, closed, closeRow, unfoldSDA, unfoldRLO, unfoldCPT, unfoldConstruct, unfoldTriplet, unfoldTriplets, start}
+use Rattle.fdoca.specs.Unfolding.{Described, array, fieldOf, groupFields, addFields, Layouts, closed, closeRow, unfoldSDA, unfoldRow, unfoldCPT, unfoldConstruct, unfoldTriplet, unfoldTriplets, start}
 use Rattle.fdoca.proofs.Results.{ok-of, ok-bind, ok-reject}
 use Rattle.fdoca.specs.Between.{tripletsAt, entry, entries, state}
 use Rattle.fdoca.proofs.Triplets.{triplets-short, triplets-past, triplets-next}
 use Rattle.fdoca.proofs.Count.{entry?, closed-state, lookup-entries, check-triplet}
-use Rattle.plans.specs.Plan.{entryOf, Proper}
-use Rattle.plans.specs.Tied.{groupsIn, groupsAt, lowerOf, SdaKept}
+use Rattle.fields.specs.Plan.{entryOf, Proper}
+use Rattle.fields.proofs.Parts.{entry-given, entry-code}
+use Rattle.plans.specs.Tied.{groupsIn, kindOf, kindAt, groupsAt, lowerOf, SdaKept}
 use Rattle.sdas.specs.Tables.{Positive, Entered, outcome}
 use Rattle.sdas.specs.Judged.{described}
 use Rattle.sdas.specs.Kept.{PutSDA}
 use Rattle.sdas.proofs.Entries.{good-positive, good-id, good-type}
 use Rattle.triplets.specs.Judged.{rowAtHand, GoodRow, JudgedISD}
 use Rattle.descriptors.specs.declared.Step.{Step}
-use Rattle.descriptors.specs.Holds.{RefersIn, Placed, Tables, RowSoFar, AtHand, Current, Last, Holds, Held, Bare, SteppedSDA, SteppedRLO, SteppedCPT, Advanced}
+use Rattle.descriptors.specs.Holds.{RefersIn, Placed, Tables, RowSoFar, AtHand, Current, Last, Holds, Held, Bare, SteppedSDA, SteppedRow, SteppedCPT, Advanced}
 use Rattle.descriptors.proofs.Rows.{AllGroups, cpt-groups, cpt-all, own-groups, own-refer}
 use Rattle.descriptors.proofs.Refs.{groups-refer}
 use Rattle.descriptors.proofs.Grow.{tables-put, tables-later}
@@ -78,7 +79,7 @@ module _ (d s z e : List ℕ) (p n : ℕ) (x : Step) (u : Layouts) (h : Holds d 
   unfolding unfoldTriplets
   unfolding-on = h .unfolds ∙ rw next
 
--- what an accepted SDA or RLO tells
+-- what an accepted SDA, RLO or GDA tells
 not-known : (ds : List (ℕ × Described)) (i : ℕ) → isDescribed i (entries ds) ≡ false → lookup i ds ≡ none
 not-known ds i h = go (lookup i ds) (sym (ap isSome (lookup-entries i ds)) ∙ h)
   where
@@ -93,41 +94,36 @@ sda-free es p t v q =
     let b = ok-reject (not (goodSDA t)) 6 p _ v (a .1) in
     ok-reject (isDescribed (idOf t) es) 7 p _ v (b .1) .0
 
-rlo-free : (es : List (ℕ × Entry)) (p : ℕ) (t : List ℕ) (v : State) → checkRLO es p t ≡ ok v
-    → (isDescribed (idOf t) es ≡ false) × ((m : ℕ) × (addGroups p es 0 (groupsOf t) ≡ ok m))
-unfolding checkRLO
-rlo-free es p t v q =
+row-free : (kind : Kind) (es : List (ℕ × Entry)) (p : ℕ) (t : List ℕ) (v : State) → checkRow kind es p t ≡ ok v
+    → (isDescribed (idOf t) es ≡ false) × ((m : ℕ) × (addGroups kind p es 0 (groupsOf t) ≡ ok m))
+unfolding checkRow
+row-free kind es p t v q =
     let a = ok-reject (not (goodLengthRow t)) 5 p _ v q in
     let b = ok-reject (eqb (idOf t) 0) 6 p _ v (a .1) in
     let c = ok-reject (isDescribed (idOf t) es) 7 p _ v (b .1) in
-    let g = ok-bind (addGroups p es 0 (groupsOf t)) (λ n. ok (rowAtHand (idOf t) n es)) v (c .1) in
+    let g = ok-bind (addGroups kind p es 0 (groupsOf t)) (λ n. ok (rowAtHand kind (idOf t) n es)) v (c .1) in
     (c .0, (g .0, g .1))
 
-cpt-added : (es : List (ℕ × Entry)) (id sum p : ℕ) (t : List ℕ) (v : State) → checkCPT (rowAtHand id sum es) p t ≡ ok v
-    → (m : ℕ) × (addGroups p es sum (groupsOf t) ≡ ok m)
+cpt-added : (kind : Kind) (es : List (ℕ × Entry)) (id sum p : ℕ) (t : List ℕ) (v : State) → checkCPT (rowAtHand kind id sum es) p t ≡ ok v
+    → (m : ℕ) × (addGroups kind p es sum (groupsOf t) ≡ ok m)
 unfolding checkCPT
-cpt-added es id sum p t v q =
+cpt-added kind es id sum p t v q =
     let a = ok-reject (not (goodLengthRow t)) 5 p _ v q in
     let b = ok-reject (not (eqb (idOf t) 0)) 6 p _ v (a .1) in
-    let g = ok-bind (addGroups p es sum (groupsOf t)) (λ n. ok (rowAtHand id n es)) v (b .1) in
+    let g = ok-bind (addGroups kind p es sum (groupsOf t)) (λ n. ok (rowAtHand kind id n es)) v (b .1) in
     (g .0, g .1)
 
 -- the size of an SDA
 sda-size : (c l : ℕ) → c ≤ 4096 → ((c + 65536 * l) % 65536 ≡ c) × ((c + 65536 * l) / 65536 ≡ l)
 sda-size c l h = (omega arith, omega arith)
 
-positive-lower : (xs : List ℕ) → 0 < product xs → Positive (C.array xs)
-positive-lower [] h = tt
-positive-lower (y ∷ xs) h = go (product xs) h
+positive-lower : (code : ℕ) (xs : List ℕ) → 0 < product xs → Positive (C.array code xs)
+positive-lower code [] h = tt
+positive-lower code (y ∷ xs) h = go (product xs) h
   where
     go : (k : ℕ) → 0 < y * k → 0 < k
     go zero q = absurd (let w : y * zero ≡ 0 = mul-zero y in let v : ⊥ = omega arith in v)
     go (suc k) q = omega arith
-
--- an entry is not 0
-entry-given : (f : Field) → Proper f → 0 < entryOf f
-unfolding entryOf
-entry-given f w = omega (arith, w .id-given)
 
 -- behind an SDA
 module _ (d s z e s′ z′ e′ : List ℕ) (p n : ℕ) (x r : Step) (u : Layouts) (h : Holds d s z e p x u) (there : p < length d) (en : n ≡ getD d p 0)
@@ -147,7 +143,7 @@ module _ (d s z e s′ z′ e′ : List ℕ) (p n : ℕ) (x r : Step) (u : Layou
 
   sda-on : r .number ≡ 0 → Held d s″ z″ e″ (p + n) r
   sda-on q =
-      let c : checkSDA (entries (closed u)) p sda ≡ ok (described (idOf sda) (extentsOf sda) (entries (closed u))) = st .accepts (entries (closed u)) (tb .agrees) q in
+      let c : checkSDA (entries (closed u)) p sda ≡ ok (described (idOf sda) (codeOf sda) (extentsOf sda) (entries (closed u))) = st .accepts (entries (closed u)) (tb .agrees) q in
       let w : PutSDA sda p s′ z′ e′ s″ z″ e″ = st .puts q in
       let g : goodSDA sda ≡ true = st .good q in
       let ty = good-type sda g in
@@ -161,13 +157,13 @@ module _ (d s z e s′ z′ e′ : List ℕ) (p n : ℕ) (x r : Step) (u : Layou
       let sz = sda-size (product xs) (lowerOf xs) few in
       let pr : Proper f = w .is-entry .proper (ty .0) (ty .1) (good-id sda g) in
       let ee : w .entry ≡ entryOf f = w .is-entry .same (ty .0) (ty .1) in
-      let sized : Entered p (product xs + 65536 * lowerOf xs) (entry (array f xs)) =
-      record { here = λ k. omega arith; count = sz .0; lower = sz .1; positive = positive-lower xs (good-positive sda g) } in
+      let sized : Entered p (product xs + 65536 * lowerOf xs) (w .entry) (entry (array f xs)) =
+      record { here = λ k. omega arith; count = sz .0; lower = sz .1; positive = positive-lower (codeOf sda) xs (good-positive sda g); coded = rw ee (entry-given f pr, entry-code f pr) } in
       let le : getD (set e′ (idOf sda) (w .entry)) (idOf sda) 0 ≡ w .entry = getD-set-same e′ (idOf sda) (w .entry) 0 (omega (arith, w .id-fits, tb .sizes .2)) in
       let lz : getD (set z′ (idOf sda) (product xs + 65536 * lowerOf xs)) (idOf sda) 0 ≡ product xs + 65536 * lowerOf xs =
       getD-set-same z′ (idOf sda) (product xs + 65536 * lowerOf xs) 0 (omega (arith, w .id-fits, tb .sizes .1)) in
       let kept : SdaKept (set z′ (idOf sda) (product xs + 65536 * lowerOf xs)) (set e′ (idOf sda) (w .entry)) (idOf sda) f xs =
-      record { entry = le ∙ ee; marked = rw (le, ee) (entry-given f pr); proper = pr; count = rw lz (sz .0); lower = rw lz (sz .1) } in
+      record { entry = le ∙ ee; marked = rw (le, ee) (entry-given f pr); proper = pr; typed = ty .1; count = rw lz (sz .0); lower = rw lz (sz .1) } in
       let tb′ : Tables d (set s′ (idOf sda) p) (set z′ (idOf sda) (product xs + 65536 * lowerOf xs)) (set e′ (idOf sda) (w .entry)) ((idOf sda, array f xs) ∷ closed u) (p + n) =
       tables-put d s′ z′ e′ (closed u) p tb (idOf sda) p (product xs + 65536 * lowerOf xs) (w .entry) (array f xs) free (w .id-fits) (p + n) (omega arith) (omega arith) sized kept in
       let k : Holds d s″ z″ e″ (p + n) r v =
@@ -192,43 +188,77 @@ module _ (d s z e s′ z′ e′ : List ℕ) (p n : ℕ) (x r : Step) (u : Layou
       }
 
 -- the count of a row at hand
-abbrev countIn : Option (ℕ × ℕ) → ℕ
+abbrev countIn : Option (ℕ × ℕ × Kind) → ℕ
 countIn none = 0
 countIn (some q) = q .1
 
--- behind an RLO
+-- an RLO or a GDA, by its construct type
+module _ (t : List ℕ) (p : ℕ) (kind : (getD t 1 0 ≡ 0x71) ⊎ (getD t 1 0 ≡ 0x75)) where
+  row-checks : (st : State) → checkTriplet st (triplet p t) ≡ checkRow (kindOf (getD t 1 0)) (C.closed st) p t
+  unfolding checkTriplet checkConstruct kindOf
+  row-checks st = go kind
+    where
+      go : (getD t 1 0 ≡ 0x71) ⊎ (getD t 1 0 ≡ 0x75) → checkTriplet st (triplet p t) ≡ checkRow (kindOf (getD t 1 0)) (C.closed st) p t
+      go (inl q) = rw q
+      go (inr q) = rw q
+
+  row-unfolds : (u : Layouts) → unfoldTriplet u (triplet p t) ≡ unfoldRow (kindOf (getD t 1 0)) u t
+  unfolding unfoldTriplet unfoldConstruct kindOf
+  row-unfolds u = go kind
+    where
+      go : (getD t 1 0 ≡ 0x71) ⊎ (getD t 1 0 ≡ 0x75) → unfoldTriplet u (triplet p t) ≡ unfoldRow (kindOf (getD t 1 0)) u t
+      go (inl q) = rw q
+      go (inr q) = rw q
+
+  head-given : getD t 1 0 ≢ 0
+  head-given = go kind
+    where
+      go : (getD t 1 0 ≡ 0x71) ⊎ (getD t 1 0 ≡ 0x75) → getD t 1 0 ≢ 0
+      go (inl q) k = omega arith
+      go (inr q) k = omega arith
+
+-- behind an RLO or a GDA
 module _ (d s z e s′ z′ e′ : List ℕ) (p n : ℕ) (x r : Step) (u : Layouts) (h : Holds d s z e p x u) (there : p < length d) (en : n ≡ getD d p 0)
     (least : 2 ≤ n) (whole : n ≤ length d - p) (tb : Tables d s′ z′ e′ (closed u) p)
-    (kind : getD (take n (drop p d)) 1 0 ≡ 0x71) (st : SteppedRLO (take n (drop p d)) p s′ z′ r) where
-  abbrev rlo : List ℕ
-  rlo = take n (drop p d)
+    (kind : (getD (take n (drop p d)) 1 0 ≡ 0x71) ⊎ (getD (take n (drop p d)) 1 0 ≡ 0x75)) (st : SteppedRow (take n (drop p d)) p s′ z′ e′ r) where
+  abbrev row : List ℕ
+  row = take n (drop p d)
 
-  rlo-checked : checkTriplet (state u) (triplet p rlo) ≡ checkRLO (entries (closed u)) p rlo
-  unfolding checkTriplet checkConstruct
-  rlo-checked = rw kind (ap (λ es. checkRLO es p rlo) (closed-state u))
+  -- the construct type, and the kind
+  same-type : getD row 1 0 ≡ getD d (p + 1) 0
+  same-type = getD-take n (drop p d) 1 0 (omega arith) ∙ getD-drop p d 1 0
+
+  abbrev own : Kind
+  own = kindOf (getD row 1 0)
+
+  same-own : own ≡ kindAt d p
+  same-own = ap kindOf same-type
+
+  row-checked : checkTriplet (state u) (triplet p row) ≡ checkRow own (entries (closed u)) p row
+  row-checked = row-checks row p kind (state u) ∙ ap (λ es. checkRow own es p row) (closed-state u)
 
   abbrev made : List Field
-  made = addFields (closed u) [] (groupsOf rlo)
+  made = addFields own (closed u) [] (groupsOf row)
 
-  rlo-unfolds : unfoldTriplet u (triplet p rlo) ≡ record { described = closed u; current = some (idOf rlo, made) }
-  unfolding unfoldTriplet unfoldConstruct unfoldRLO
-  rlo-unfolds = rw kind
+  row-made : unfoldTriplet u (triplet p row) ≡ record { described = closed u; current = some (idOf row, made, own) }
+  unfolding unfoldRow
+  row-made = row-unfolds row p kind u
 
-  rlo-on : r .number ≡ 0 → Held d s′ z′ e′ (p + n) r
+  row-on : r .number ≡ 0 → Held d s′ z′ e′ (p + n) r
   unfolding groupsAt
-  rlo-on q =
-      let c : checkRLO (entries (closed u)) p rlo ≡ ok (rowAtHand (idOf rlo) (r .count) (entries (closed u))) = st .accepts (entries (closed u)) (tb .agrees) q in
-      let v : Layouts = record { described = closed u; current = some (idOf rlo, made) } in
-      let a = rlo-free (entries (closed u)) p rlo _ c in
-      let free : lookup (idOf rlo) (closed u) ≡ none = not-known (closed u) (idOf rlo) (a .0) in
-      let gd : GoodRow rlo = st .good q in
-      let sz : length rlo ≡ n = length-take-le n (drop p d) (omega (arith, length-drop p d)) in
+  row-on q =
+      let c : checkRow own (entries (closed u)) p row ≡ ok (rowAtHand own (idOf row) (r .count) (entries (closed u))) = st .accepts (entries (closed u)) (tb .agrees) q in
+      let v : Layouts = record { described = closed u; current = some (idOf row, made, own) } in
+      let a = row-free own (entries (closed u)) p row _ c in
+      let free : lookup (idOf row) (closed u) ≡ none = not-known (closed u) (idOf row) (a .0) in
+      let gd : GoodRow row = st .good q in
+      let sz : length row ≡ n = length-take-le n (drop p d) (omega (arith, length-drop p d)) in
       let fits : p + n ≤ length d = omega arith in
-      let refs : AllGroups (RefersIn s′ (closed u) p) (groupsOf rlo) =
-      groups-refer s′ (closed u) p p 0 (a .1 .0) (groupsOf rlo) (λ i D k. let w : Placed d s′ z′ e′ (closed u) p i D = tb .placed i D k in (w .before, w .id-fits)) (a .1 .1) in
+      let refs : AllGroups (RefersIn own s′ (closed u) p) (groupsOf row) =
+      groups-refer own s′ (closed u) p p 0 (a .1 .0) (groupsOf row) (λ i D k. let w : Placed d s′ z′ e′ (closed u) p i D = tb .placed i D k in (w .before, w .id-fits)) (a .1 .1) in
       let tl = st .told q in
-      let same : rowAtHand (idOf rlo) (r .count) (entries (closed u)) ≡ state v =
-      rw rlo-unfolds at (checked-on d s z e p n x u h there en least whole _ (rlo-checked ∙ c)) in
+      let same : rowAtHand own (idOf row) (r .count) (entries (closed u)) ≡ state v =
+      rw row-made at (checked-on d s z e p n x u h there en least whole _ (row-checked ∙ c)) in
       let cn : r .count ≡ length made = ap (λ (w : State). countIn (w .current)) same in
       let six : 6 ≤ n = omega (arith, gd .some-there) in
       let far : RowSoFar d s′ (closed u) (p + n) p made =
@@ -236,14 +266,16 @@ module _ (d s z e s′ z′ e′ : List ℕ) (p n : ℕ) (x r : Step) (u : Layou
         head = omega arith;
         long = omega arith;
         before = omega arith;
-        groups = groupsOf rlo;
-        fields = refl;
+        groups = groupsOf row;
+        fields = ap (λ k. addFields k (closed u) [] (groupsOf row)) same-own;
         all = rw (← en) (own-groups d p n fits gd);
-        rest = λ g. rw (← en) (own-refer d p n fits gd (RefersIn s′ (closed u) p) refs g);
+        rest = λ g. rw (← en) (own-refer d p n fits gd (RefersIn (kindAt d p) s′ (closed u) p) (rw same-own at refs) g);
       } in
-      let hand : AtHand d s′ (closed u) (p + n) r (idOf rlo) made =
+      let hand : AtHand d s′ (closed u) (p + n) r (idOf row) made own =
       record {
-        at-hand = tl .0;
+        at-hand = λ k. head-given row p kind (sym (tl .0) ∙ k);
+        same-head = tl .0 ∙ rw (tl .2) same-type;
+        same-kind = ap kindOf (tl .0);
         same-id = tl .1;
         free = free;
         earlier = λ i D k. rw (tl .2) (tb .placed i D k .before);
@@ -251,8 +283,8 @@ module _ (d s z e s′ z′ e′ : List ℕ) (p n : ℕ) (x r : Step) (u : Layou
       } in
       let k : Holds d s′ z′ e′ (p + n) r v =
       record {
-        checking = rw rlo-unfolds at (checking-on d s z e p n x u h there en least whole _ (rlo-checked ∙ c));
-        unfolds = rw rlo-unfolds at (unfolding-on d s z e p n x u h there en least whole);
+        checking = rw row-made at (checking-on d s z e p n x u h there en least whole _ (row-checked ∙ c));
+        unfolds = rw row-made at (unfolding-on d s z e p n x u h there en least whole);
         tables = tables-later d s′ z′ e′ (closed u) p (p + n) (omega arith) tb;
         current = hand;
         last = (tl .1, λ y. st .id-given q .0 (sym (tl .1) ∙ y), cn);
@@ -262,23 +294,24 @@ module _ (d s z e s′ z′ e′ : List ℕ) (p n : ℕ) (x r : Step) (u : Layou
       } in
       (v, k)
 
-  pub rlo-moved : Advanced d s′ z′ e′ p r
-  rlo-moved =
+  pub row-moved : Advanced d s′ z′ e′ p r
+  row-moved =
       record {
-        refuses = λ q. refused-here d s z e p n x u h there en least whole (r .number) (rlo-checked ∙ st .refuses (entries (closed u)) (tb .agrees) q);
-        accepts = λ q. rw en at (rlo-on q);
+        refuses = λ q. refused-here d s z e p n x u h there en least whole (r .number) (row-checked ∙ st .refuses (entries (closed u)) (tb .agrees) q);
+        accepts = λ q. rw en at (row-on q);
         moves = λ q. omega arith;
       }
 
 -- the groups of two triplets, one behind the other
-add-append : (ds : List (ℕ × Described)) (l : List Field) (gs hs : List Group) → addFields ds (addFields ds l gs) hs ≡ addFields ds l (gs ++ hs)
+add-append : (kind : Kind) (ds : List (ℕ × Described)) (l : List Field) (gs hs : List Group)
+    → addFields kind ds (addFields kind ds l gs) hs ≡ addFields kind ds l (gs ++ hs)
 unfolding addFields
-add-append ds l [] hs = refl
-add-append ds l (g ∷ gs) hs = add-append ds (l ++ groupFields ds g) gs hs
+add-append kind ds l [] hs = refl
+add-append kind ds l (g ∷ gs) hs = add-append kind ds (l ++ groupFields kind ds g) gs hs
 
 -- behind a CPT
 module _ (d s z e : List ℕ) (p n : ℕ) (x r : Step) (u : Layouts) (h : Holds d s z e p x u) (there : p < length d) (en : n ≡ getD d p 0)
-    (least : 2 ≤ n) (whole : n ≤ length d - p) (kind : getD (take n (drop p d)) 1 0 ≡ 0x7F) (st : SteppedCPT (take n (drop p d)) s z x r) where
+    (least : 2 ≤ n) (whole : n ≤ length d - p) (kind : getD (take n (drop p d)) 1 0 ≡ 0x7F) (st : SteppedCPT (take n (drop p d)) s z e x r) where
   abbrev cpt : List ℕ
   cpt = take n (drop p d)
 
@@ -290,36 +323,38 @@ module _ (d s z e : List ℕ) (p n : ℕ) (x r : Step) (u : Layouts) (h : Holds 
   unfolding checkCPT
   cpt-alone q = rw q
 
-  cpt-unfolds : (c : ℕ × List Field) → u .current ≡ some c
-      → unfoldTriplet u (triplet p cpt) ≡ record { described = u .described; current = some (c .0, addFields (u .described) (c .1) (groupsOf cpt)) }
+  cpt-unfolds : (c : ℕ × List Field × Kind) → u .current ≡ some c
+      → unfoldTriplet u (triplet p cpt) ≡ record { described = u .described; current = some (c .0, addFields (c .2) (u .described) (c .1) (groupsOf cpt), c .2) }
   unfolding unfoldTriplet unfoldConstruct unfoldCPT
   cpt-unfolds c q = rw (kind, q)
 
-  cpt-state : (c : ℕ × List Field) → u .current ≡ some c → x .count ≡ length (c .1) → state u ≡ rowAtHand (c .0) (x .count) (entries (u .described))
-  cpt-state c q k = rw (q, k)
+  cpt-state : (c : ℕ × List Field × Kind) → u .current ≡ some c → x .count ≡ length (c .1) → kindOf (x .head) ≡ c .2
+      → state u ≡ rowAtHand (kindOf (x .head)) (c .0) (x .count) (entries (u .described))
+  cpt-state c q k m = rw (q, k, m)
 
-  cpt-refuses : (o : Option (ℕ × List Field)) → u .current ≡ o → Current d s (u .described) p x o → Last x (closeRow (u .described) o)
+  cpt-refuses : (o : Option (ℕ × List Field × Kind)) → u .current ≡ o → Current d s (u .described) p x o → Last x (closeRow (u .described) o)
       → r .number ≢ 0 → checkTriplets begin (triplets d) ≡ refuse (r .number) p
   cpt-refuses none q c l k =
       refused-here d s z e p n x u h there en least whole (r .number) (cpt-checked ∙ cpt-alone q ∙ ap (λ m. refuse m p) (sym (st .no-row c)))
   cpt-refuses (some c) q a l k =
       refused-here d s z e p n x u h there en least whole (r .number)
-      (cpt-checked ∙ rw (cpt-state c q (l .2)) (st .refuses p (c .0) (entries (u .described)) (h .tables .agrees) (a .at-hand) k))
+      (cpt-checked ∙ rw (cpt-state c q (l .2) (a .same-kind)) (st .refuses p (c .0) (entries (u .described)) (h .tables .agrees) (a .at-hand) k))
 
-  cpt-on : (o : Option (ℕ × List Field)) → u .current ≡ o → Current d s (u .described) p x o → Last x (closeRow (u .described) o)
+  cpt-on : (o : Option (ℕ × List Field × Kind)) → u .current ≡ o → Current d s (u .described) p x o → Last x (closeRow (u .described) o)
       → r .number ≡ 0 → Held d s z e (p + n) r
   unfolding groupsAt
   cpt-on none q c l k = absurd (let w : r .number ≡ 4 = st .no-row c in let y : ⊥ = omega arith in y)
   cpt-on (some c) q a l k =
       let ds : List (ℕ × Described) = u .described in
       let es : List (ℕ × Entry) = entries ds in
-      let acc : checkCPT (rowAtHand (c .0) (x .count) es) p cpt ≡ ok (rowAtHand (c .0) (r .count) es) = st .accepts p (c .0) es (h .tables .agrees) (a .at-hand) k in
-      let gr = cpt-added es (c .0) (x .count) p cpt _ acc in
-      let made′ : List Field = addFields ds (c .1) (groupsOf cpt) in
-      let v : Layouts = record { described = ds; current = some (c .0, made′) } in
-      let ev : unfoldTriplet u (triplet p cpt) ≡ v = cpt-unfolds c q in
-      let whole-check : checkTriplet (state u) (triplet p cpt) ≡ ok (rowAtHand (c .0) (r .count) es) = cpt-checked ∙ rw (cpt-state c q (l .2)) acc in
-      let same : rowAtHand (c .0) (r .count) es ≡ state v = rw ev at (checked-on d s z e p n x u h there en least whole _ whole-check) in
+      let kd : Kind = kindOf (x .head) in
+      let acc : checkCPT (rowAtHand kd (c .0) (x .count) es) p cpt ≡ ok (rowAtHand kd (c .0) (r .count) es) = st .accepts p (c .0) es (h .tables .agrees) (a .at-hand) k in
+      let gr = cpt-added kd es (c .0) (x .count) p cpt _ acc in
+      let made′ : List Field = addFields kd ds (c .1) (groupsOf cpt) in
+      let v : Layouts = record { described = ds; current = some (c .0, made′, kd) } in
+      let ev : unfoldTriplet u (triplet p cpt) ≡ v = rw (a .same-kind) (cpt-unfolds c q) in
+      let whole-check : checkTriplet (state u) (triplet p cpt) ≡ ok (rowAtHand kd (c .0) (r .count) es) = cpt-checked ∙ rw (cpt-state c q (l .2) (a .same-kind)) acc in
+      let same : rowAtHand kd (c .0) (r .count) es ≡ state v = rw ev at (checked-on d s z e p n x u h there en least whole _ whole-check) in
       let cn : r .count ≡ length made′ = ap (λ (w : State). countIn (w .current)) same in
       let gd : GoodRow cpt = st .good k in
       let sz : length cpt ≡ n = length-take-le n (drop p d) (omega (arith, length-drop p d)) in
@@ -327,8 +362,9 @@ module _ (d s z e : List ℕ) (p n : ℕ) (x r : Step) (u : Layouts) (h : Holds 
       let six : 6 ≤ n = omega (arith, gd .some-there) in
       let tl = st .told k in
       let far : RowSoFar d s ds p (x .at) (c .1) = a .so-far in
-      let refs : AllGroups (RefersIn s ds (x .at)) (groupsOf cpt) =
-      groups-refer s ds p (x .at) (x .count) (gr .0) (groupsOf cpt) (λ i D w. (a .earlier i D w, h .tables .placed i D w .id-fits)) (gr .1) in
+      let hd : kd ≡ kindAt d (x .at) = ap kindOf (a .same-head) in
+      let refs : AllGroups (RefersIn (kindAt d (x .at)) s ds (x .at)) (groupsOf cpt) =
+      rw hd at (groups-refer kd s ds p (x .at) (x .count) (gr .0) (groupsOf cpt) (λ i D w. (a .earlier i D w, h .tables .placed i D w .id-fits)) (gr .1)) in
       let head-is : getD d (p + 1) 0 ≡ 0x7F = sym (getD-take n (drop p d) 1 0 (omega arith) ∙ getD-drop p d 1 0) ∙ kind in
       let far′ : RowSoFar d s ds (p + n) (x .at) made′ =
       record {
@@ -336,13 +372,15 @@ module _ (d s z e : List ℕ) (p n : ℕ) (x r : Step) (u : Layouts) (h : Holds 
         long = far .long;
         before = omega (arith, far .before);
         groups = far .groups ++ groupsOf cpt;
-        fields = rw (far .fields) (add-append ds [] (far .groups) (groupsOf cpt));
+        fields = rw (far .fields, hd) (add-append (kindAt d (x .at)) ds [] (far .groups) (groupsOf cpt));
         all = far .all ∙ rw (cpt-groups d p (omega arith) head-is, ← en, own-groups d p n fits gd) (sym (append-assoc (far .groups) (groupsOf cpt) (groupsIn 0 (drop (p + n) d))));
-        rest = λ g. far .rest (cpt-all d p (omega arith) head-is (RefersIn s ds (x .at)) (rw (← en) (own-refer d p n fits gd (RefersIn s ds (x .at)) refs g)));
+        rest = λ g. far .rest (cpt-all d p (omega arith) head-is (RefersIn (kindAt d (x .at)) s ds (x .at)) (rw (← en) (own-refer d p n fits gd (RefersIn (kindAt d (x .at)) s ds (x .at)) refs g)));
       } in
-      let hand : AtHand d s ds (p + n) r (c .0) made′ =
+      let hand : AtHand d s ds (p + n) r (c .0) made′ kd =
       record {
-        at-hand = tl .0;
+        at-hand = λ k. a .at-hand (sym (tl .0) ∙ k);
+        same-head = tl .0 ∙ rw (tl .2) (a .same-head);
+        same-kind = ap kindOf (tl .0);
         same-id = tl .1 ∙ a .same-id;
         free = a .free;
         earlier = λ i D w. rw (tl .2) (a .earlier i D w);
@@ -384,7 +422,7 @@ module _ (d s z e : List ℕ) (x : Step) (u : Layouts) (h : Holds d s z e 0 x u)
   first-current : u .current ≡ none
   first-current = go (u .current) (h .current)
     where
-      go : (o : Option (ℕ × List Field)) → Current d s (u .described) 0 x o → o ≡ none
+      go : (o : Option (ℕ × List Field × Kind)) → Current d s (u .described) 0 x o → o ≡ none
       go none c = refl
       go (some r) c = absurd (let y : ⊥ = omega (arith, c .so-far .long, c .so-far .before) in y)
 

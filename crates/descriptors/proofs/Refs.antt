@@ -3,20 +3,20 @@
 use mathlib.Core.Path.{_≡_, refl, sym, ap, _∙_}
 use Prim.Native.Nat.{ℕ, zero, suc, _+_, _*_, _<_}
 use native.Mathlib.Omega.{arith}
+use mathlib.Core.Bool.{false, not, true≢false}
 use mathlib.Core.List.{List, [], _∷_}
 use mathlib.Core.Option.{Option, none, some}
 use lib.Dec.{ltb, eqb}
 use lib.ListN.{getD}
-use borrow.Author.Tests.{eqb-false}
+use borrow.Author.Tests.{eqb-false, not-false}
 use Rattle.fdoca.specs.Basics.{lookup, ok, _>>=_, _>>_, reject, the}
-use Rattle.fdoca.specs.Triplet.{Group}
-use Rattle.fdoca.specs.Check.{maxItems, countTaken, addGroup, addGroups}
-use Rattle.fdoca.specs.Check as C
+use Rattle.fdoca.specs.Triplet.{Kind, rowLayout, groupArray, Group, taken, factor}
+use Rattle.fdoca.specs.Check.{maxItems, countTaken, goodLength, fits, countAdded, addGroup, addGroups}
 use Rattle.fdoca.specs.Unfolding.{Described, array, row}
 use Rattle.fdoca.proofs.Results.{ok-bind, ok-reject}
 use Rattle.fdoca.specs.Between.{entry, entries}
 use Rattle.fdoca.proofs.Count.{entry?, lookup-entries}
-use Rattle.plans.specs.Tied.{Takes, all, some-of}
+use Rattle.plans.specs.Tied.{Takes, all, some-of, Makes, of-row, of-column}
 use Rattle.descriptors.specs.Holds.{RefersIn}
 use Rattle.descriptors.proofs.Rows.{AllGroups}
 
@@ -27,20 +27,18 @@ takes-of (suc k) n (array f []) e = absurd (let z : _≡_ {A = ℕ} 0 1 = cc in 
 takes-of (suc k) n (array f (x ∷ xs)) e = some-of
 takes-of (suc k) n (row l) e = absurd (let z : _≡_ {A = ℕ} 0 1 = cc in let w : ⊥ = omega arith in w)
 
--- a group that was added
-record Added (g : Group) (x : Option Described) : Type 0 where
-  to : Described
-  found : x ≡ some to
-  repeats : 0 < g .factor
-  takes : Takes (g .taken) to
+-- what a group that is not refused makes
+fitting : (g : Group) (D : Described) → not (fits g (entry D)) ≡ false → Makes groupArray g D
+fitting g (array f []) h = of-column (not-false (goodLength (f .code) (g .byte1) (g .byte2)) h)
+fitting g (array f (x ∷ xs)) h = absurd (true≢false h)
+fitting g (row l) h = absurd (true≢false h)
 
-group-added : (p n m : ℕ) (g : Group) (x : Option Described) → addGroup p n g (entry? x) ≡ ok m → Added g x
-unfolding addGroup
-group-added p n m g none e = absurd (let z : _≡_ {A = ℕ} 0 1 = cc in let w : ⊥ = omega arith in w)
-group-added p n m g (some D) e =
-    let a = ok-reject (eqb (g .factor) 0) 9 p (the (countTaken (g .taken) (entry D)) 9 p >>= (λ k. reject (ltb maxItems (n + g .factor * k)) 10 p >> ok (n + g .factor * k))) m e in
-    let b = ok-bind (the (countTaken (g .taken) (entry D)) 9 p) (λ k. reject (ltb maxItems (n + g .factor * k)) 10 p >> ok (n + g .factor * k)) m (a .1) in
-    record { to = D; found = refl; repeats = positive (g .factor) (eqb-false (g .factor) 0 (a .0)); takes = takes-of (g .taken) (b .0) D (the-some (countTaken (g .taken) (entry D)) (b .0) (b .1)) }
+made-of : (kind : Kind) (p m : ℕ) (g : Group) (D : Described) → countAdded kind p g (entry D) ≡ ok m → Makes kind g D
+unfolding countAdded
+made-of rowLayout p m g D e =
+    let a = ok-reject (eqb (factor g) 0) 9 p (the (countTaken (taken g) (entry D)) 9 p >>= (λ k. ok (factor g * k))) m e in
+    let b = ok-bind (the (countTaken (taken g) (entry D)) 9 p) (λ k. ok (factor g * k)) m (a .1) in
+    of-row (positive (factor g) (eqb-false (factor g) 0 (a .0))) (takes-of (taken g) (b .0) D (the-some (countTaken (taken g) (entry D)) (b .0) (b .1)))
   where
     positive : (k : ℕ) → (k ≡ 0 → ⊥) → 0 < k
     positive zero h = absurd (h refl)
@@ -49,17 +47,31 @@ group-added p n m g (some D) e =
     the-some : (o : Option ℕ) (k : ℕ) → the o 9 p ≡ ok k → o ≡ some k
     the-some none k q = absurd (let z : _≡_ {A = ℕ} 0 1 = cc in let w : ⊥ = omega arith in w)
     the-some (some y) k q = cc
+made-of groupArray p m g D e = fitting g D (ok-reject (not (fits g (entry D))) 21 p (ok 1) m e .0)
+
+-- a group that was added
+record Added (kind : Kind) (g : Group) (x : Option Described) : Type 0 where
+  to : Described
+  found : x ≡ some to
+  makes : Makes kind g to
+
+group-added : (kind : Kind) (p n m : ℕ) (g : Group) (x : Option Described) → addGroup kind p n g (entry? x) ≡ ok m → Added kind g x
+unfolding addGroup
+group-added kind p n m g none e = absurd (let z : _≡_ {A = ℕ} 0 1 = cc in let w : ⊥ = omega arith in w)
+group-added kind p n m g (some D) e =
+    let a = ok-bind (countAdded kind p g (entry D)) (λ k. reject (ltb maxItems (n + k)) 10 p >> ok (n + k)) m e in
+    record { to = D; found = refl; makes = made-of kind p (a .0) g D (a .1) }
 
 -- The groups of a triplet at p, where they are accepted, each refer to an id described before; the positions of these are below q.
-pub groups-refer : (s : List ℕ) (ds : List (ℕ × Described)) (p q n m : ℕ) (gs : List Group)
+pub groups-refer : (kind : Kind) (s : List ℕ) (ds : List (ℕ × Described)) (p q n m : ℕ) (gs : List Group)
     → ((i : ℕ) (D : Described) → lookup i ds ≡ some D → (getD s i 0 < q) × (i < 256))
-    → addGroups p (entries ds) n gs ≡ ok m → AllGroups (RefersIn s ds q) gs
+    → addGroups kind p (entries ds) n gs ≡ ok m → AllGroups (RefersIn kind s ds q) gs
 unfolding addGroups
-groups-refer s ds p q n m [] t h = tt
-groups-refer s ds p q n m (g ∷ gs) t h =
-    let a = ok-bind (addGroup p n g (lookup (g .ref) (entries ds))) (λ k. addGroups p (entries ds) k gs) m h in
-    let b : Added g (lookup (g .ref) ds) = group-added p n (a .0) g (lookup (g .ref) ds) (sym (ap (addGroup p n g) (lookup-entries (g .ref) ds)) ∙ a .1) in
+groups-refer kind s ds p q n m [] t h = tt
+groups-refer kind s ds p q n m (g ∷ gs) t h =
+    let a = ok-bind (addGroup kind p n g (lookup (g .ref) (entries ds))) (λ k. addGroups kind p (entries ds) k gs) m h in
+    let b : Added kind g (lookup (g .ref) ds) = group-added kind p n (a .0) g (lookup (g .ref) ds) (sym (ap (addGroup kind p n g) (lookup-entries (g .ref) ds)) ∙ a .1) in
     let w = t (g .ref) (b .to) (b .found) in (
-      record { to = b .to; known = b .found; back = w .0; id-fits = w .1; repeats = b .repeats; takes = b .takes },
-      groups-refer s ds p q (a .0) m gs t (a .2),
+      record { to = b .to; known = b .found; back = w .0; id-fits = w .1; makes = b .makes },
+      groups-refer kind s ds p q (a .0) m gs t (a .2),
     )

@@ -83,7 +83,7 @@ own-in n [] rest e m = ap (λ k. groupsIn k rest) (sym e)
 own-in n (a ∷ []) rest e m = absurd (let z : ⊥ = omega arith in z)
 own-in n (a ∷ b ∷ []) rest e m = absurd (let z : ⊥ = omega arith in z)
 own-in n (a ∷ b ∷ c ∷ x) rest e m =
-    rw (lt-ltb 0 n (omega arith)) (ap (λ l. record { ref = a; taken = b; factor = c } ∷ l) (own-in (n - 3) x rest (omega arith) (omega arith)))
+    rw (lt-ltb 0 n (omega arith)) (ap (λ l. record { ref = a; byte1 = b; byte2 = c } ∷ l) (own-in (n - 3) x rest (omega arith) (omega arith)))
 
 own-all : (P : Group → Type 0) (n : ℕ) (x rest : List ℕ) → length x ≡ n → n % 3 ≡ 0 → AllGroups P (threes x) → Groups P 0 rest → Groups P n (x ++ rest)
 unfolding Groups
@@ -124,9 +124,9 @@ groups-all P n (a ∷ []) g = tt
 groups-all P n (a ∷ b ∷ []) g = tt
 groups-all P n (a ∷ b ∷ c ∷ x) g = go (ltb 0 n) (eqb b 0x7F) g (λ k. groups-all P (n - 3) x k) (λ k. groups-all P (a - 3) x k)
   where
-    go : (q r : Bool) → caseOf q (P (record { ref = a; taken = b; factor = c }) × Groups P (n - 3) x) (caseOf r (Groups P (a - 3) x) (Unit {0}))
+    go : (q r : Bool) → caseOf q (P (record { ref = a; byte1 = b; byte2 = c }) × Groups P (n - 3) x) (caseOf r (Groups P (a - 3) x) (Unit {0}))
         → (Groups P (n - 3) x → AllGroups P (groupsIn (n - 3) x)) → (Groups P (a - 3) x → AllGroups P (groupsIn (a - 3) x))
-        → AllGroups P (if q then record { ref = a; taken = b; factor = c } ∷ groupsIn (n - 3) x else if r then groupsIn (a - 3) x else [])
+        → AllGroups P (if q then record { ref = a; byte1 = b; byte2 = c } ∷ groupsIn (n - 3) x else if r then groupsIn (a - 3) x else [])
     go true r g f h = (g .0, f (g .1))
     go false true g f h = h g
     go false false g f h = tt
@@ -138,9 +138,9 @@ groups-map f n (a ∷ []) g = g
 groups-map f n (a ∷ b ∷ []) g = g
 groups-map {P = P} {Q = Q} f n (a ∷ b ∷ c ∷ x) g = go (ltb 0 n) (eqb b 0x7F) g (λ k. groups-map f (n - 3) x k) (λ k. groups-map f (a - 3) x k)
   where
-    go : (q r : Bool) → caseOf q (P (record { ref = a; taken = b; factor = c }) × Groups P (n - 3) x) (caseOf r (Groups P (a - 3) x) (Unit {0}))
+    go : (q r : Bool) → caseOf q (P (record { ref = a; byte1 = b; byte2 = c }) × Groups P (n - 3) x) (caseOf r (Groups P (a - 3) x) (Unit {0}))
         → (Groups P (n - 3) x → Groups Q (n - 3) x) → (Groups P (a - 3) x → Groups Q (a - 3) x)
-        → caseOf q (Q (record { ref = a; taken = b; factor = c }) × Groups Q (n - 3) x) (caseOf r (Groups Q (a - 3) x) (Unit {0}))
+        → caseOf q (Q (record { ref = a; byte1 = b; byte2 = c }) × Groups Q (n - 3) x) (caseOf r (Groups Q (a - 3) x) (Unit {0}))
     go true r g k h = (f _ (g .0), k (g .1))
     go false true g k h = h g
     go false false g k h = tt

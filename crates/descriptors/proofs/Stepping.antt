@@ -1,10 +1,10 @@
--- The steps over an SDA, an RLO and a CPT, from what judging them gave.
+-- The steps over an SDA, an RLO, a GDA and a CPT, from what judging them gave.
 -- Assumes nothing.
 use mathlib.Core.Path.{_≡_, sym, _∙_}
 use mathlib.Core.Logic.{_≢_}
 use Prim.Native.Nat.{ℕ, _≤_, _<_}
 use native.Mathlib.Omega.{arith}
-use mathlib.Core.Bool.{true, false, true≢false}
+use mathlib.Core.Bool.{true}
 use mathlib.Core.List.{List}
 use lib.ListN.{length, getD}
 use borrow.Author.Tests.{eq-eqb, ne-eqb}
@@ -18,9 +18,10 @@ use Rattle.sdas.specs.Judged.{JudgedSDA}
 use Rattle.sdas.specs.Kept.{PutSDA}
 use Rattle.sdas.proofs.Sda.{at-least-12}
 use Rattle.triplets.specs.declared.Sum.{Sum}
-use Rattle.triplets.specs.Judged.{JudgedRLO, JudgedCPT}
+use Rattle.triplets.specs.Judged.{JudgedRow, JudgedCPT}
 use Rattle.descriptors.specs.declared.Step.{Step}
-use Rattle.descriptors.specs.Holds.{Bare, SteppedSDA, SteppedRLO, SteppedCPT}
+use Rattle.descriptors.specs.Holds.{Bare, SteppedSDA, SteppedRow, SteppedCPT}
+use Rattle.plans.specs.Tied.{kindOf}
 
 refusing : {A : Type 0} (n m p : ℕ) (a : A) (x : Result A) → x ≡ outcome n p a → m ≡ n → m ≢ 0 → x ≡ refuse m p
 unfolding outcome
@@ -37,7 +38,7 @@ module _ (t s : List ℕ) (j : Judged) (y : JudgedSDA t s j) where
   pub sda-refused : (z e : List ℕ) (p : ℕ) (r : Step) → (j .number ≡ 0 → ⊥) → Bare (j .number) r → SteppedSDA t p s z e s z e r
   sda-refused z e p r h b =
       record {
-        refuses = λ es a q. refusing (j .number) (r .number) p _ _ (y .result p z es a) (b .numbered) q;
+        refuses = λ es a q. refusing (j .number) (r .number) p _ _ (y .result p z e es a) (b .numbered) q;
         accepts = λ es a q. never (b .numbered) h q;
         puts = λ q. never (b .numbered) h q;
         good = λ q. never (b .numbered) h q;
@@ -65,20 +66,20 @@ module _ (t s : List ℕ) (j : Judged) (y : JudgedSDA t s j) where
     judged-id = omega (arith, at-least-12 t judged-length)
 
     pub sda-put : (z e s′ z′ e′ : List ℕ) (p : ℕ) (r : Step) → PutSDA t p s z e s′ z′ e′
-        → r ≡ record { number = 0; row = false; id = getD t 2 0; at = p; count = j .count } → SteppedSDA t p s z e s′ z′ e′ r
+        → r ≡ record { number = 0; head = 0; id = getD t 2 0; at = p; count = j .count } → SteppedSDA t p s z e s′ z′ e′ r
     sda-put z e s′ z′ e′ p r w q =
         record {
           refuses = λ es a n. absurd (n (rw q));
-          accepts = λ es a n. accepting (j .number) p _ _ (y .result p z es a) h;
+          accepts = λ es a n. accepting (j .number) p _ _ (y .result p z e es a) h;
           puts = λ n. w;
           good = λ n. judged-good;
           told = λ n. (rw q, rw q, rw q judged-count);
           small = rw q judged-small;
         }
 
-module _ (t s z : List ℕ) (j : Sum) (y : JudgedRLO t s z j) (p : ℕ) (r : Step) where
-  pub rlo-refused : (j .number ≡ 0 → ⊥) → Bare (j .number) r → SteppedRLO t p s z r
-  rlo-refused h b =
+module _ (t s z e : List ℕ) (j : Sum) (y : JudgedRow t s z e j) (p : ℕ) (r : Step) where
+  pub row-refused : (j .number ≡ 0 → ⊥) → Bare (j .number) r → SteppedRow t p s z e r
+  row-refused h b =
       record {
         refuses = λ es a q. refusing (j .number) (r .number) p _ _ (y .result p es a) (b .numbered) q;
         accepts = λ es a q. never (b .numbered) h q;
@@ -88,8 +89,8 @@ module _ (t s z : List ℕ) (j : Sum) (y : JudgedRLO t s z j) (p : ℕ) (r : Ste
         small = omega (arith, b .no-count);
       }
 
-  pub rlo-opened : j .number ≡ 0 → r ≡ record { number = 0; row = true; id = getD t 2 0; at = p; count = j .count } → SteppedRLO t p s z r
-  rlo-opened h q =
+  pub row-opened : j .number ≡ 0 → r ≡ record { number = 0; head = getD t 1 0; id = getD t 2 0; at = p; count = j .count } → SteppedRow t p s z e r
+  row-opened h q =
       record {
         refuses = λ es a n. absurd (n (rw q));
         accepts = λ es a n. rw q (accepting (j .number) p _ _ (y .result p es a) h);
@@ -99,26 +100,26 @@ module _ (t s z : List ℕ) (j : Sum) (y : JudgedRLO t s z j) (p : ℕ) (r : Ste
         small = rw q (y .small);
       }
 
-pub row-judged : (t s z : List ℕ) (j : Sum) → JudgedRLO t s z j → j .number ≡ 0 → 2 < length t
-row-judged t s z j y h = omega (arith, y .good h .some-there)
+pub row-judged : (t s z e : List ℕ) (j : Sum) (k : ℕ) → JudgedRow t s z e j → j .number ≡ 0 → k < 3 → k < length t
+row-judged t s z e j k y h l = omega (arith, y .good h .some-there)
 
-module _ (t s z : List ℕ) (x r : Step) where
-  pub cpt-alone : x .row ≡ false → Bare 4 r → SteppedCPT t s z x r
+module _ (t s z e : List ℕ) (x r : Step) where
+  pub cpt-alone : x .head ≡ 0 → Bare 4 r → SteppedCPT t s z e x r
   cpt-alone h b =
       record {
         no-row = λ q. b .numbered;
-        refuses = λ p id es a q n. absurd (true≢false (sym q ∙ h));
-        accepts = λ p id es a q n. absurd (true≢false (sym q ∙ h));
+        refuses = λ p id es a q n. absurd (q h);
+        accepts = λ p id es a q n. absurd (q h);
         told = λ n. never (b .numbered) (λ k. omega arith) n;
         good = λ n. never (b .numbered) (λ k. omega arith) n;
         small = omega (arith, b .no-count);
       }
 
-  module _ (j : Sum) (y : JudgedCPT t s z (x .count) j) (h : x .row ≡ true) where
-    pub cpt-refused : (j .number ≡ 0 → ⊥) → Bare (j .number) r → SteppedCPT t s z x r
+  module _ (j : Sum) (y : JudgedCPT (kindOf (x .head)) t s z e (x .count) j) (h : x .head ≡ 0 → ⊥) where
+    pub cpt-refused : (j .number ≡ 0 → ⊥) → Bare (j .number) r → SteppedCPT t s z e x r
     cpt-refused k b =
         record {
-          no-row = λ q. absurd (true≢false (sym h ∙ q));
+          no-row = λ q. absurd (h q);
           refuses = λ p id es a q n. refusing (j .number) (r .number) p _ _ (y .result p id es a) (b .numbered) n;
           accepts = λ p id es a q n. never (b .numbered) k n;
           told = λ n. never (b .numbered) k n;
@@ -126,10 +127,10 @@ module _ (t s z : List ℕ) (x r : Step) where
           small = omega (arith, b .no-count);
         }
 
-    pub cpt-continued : j .number ≡ 0 → r ≡ record { number = 0; row = true; id = x .id; at = x .at; count = j .count } → SteppedCPT t s z x r
+    pub cpt-continued : j .number ≡ 0 → r ≡ record { number = 0; head = x .head; id = x .id; at = x .at; count = j .count } → SteppedCPT t s z e x r
     cpt-continued k q =
         record {
-          no-row = λ n. absurd (true≢false (sym h ∙ n));
+          no-row = λ n. absurd (h n);
           refuses = λ p id es a m n. absurd (n (rw q));
           accepts = λ p id es a m n. rw q (accepting (j .number) p _ _ (y .result p id es a) k);
           told = λ n. (rw q, rw q, rw q);

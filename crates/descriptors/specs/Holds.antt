@@ -2,17 +2,17 @@
 use Prim.Native.Nat.{ℕ, _+_, _-_, _≤_, _<_}
 use mathlib.Core.Path.{_≡_}
 use mathlib.Core.Logic.{_≢_}
-use mathlib.Core.Bool.{true, false}
+use mathlib.Core.Bool.{true}
 use mathlib.Core.List.{List, [], _∷_, _++_}
 use mathlib.Core.Option.{Option, none, some}
 use lib.ListN.{length, getD, drop}
 use Rattle.fdoca.specs.Basics.{product, lookup, Result, refuse, ok}
-use Rattle.fdoca.specs.Triplet.{triplets, Group, idOf, extentsOf}
+use Rattle.fdoca.specs.Triplet.{triplets, Kind, Group, idOf, codeOf, extentsOf}
 use Rattle.fdoca.specs.Item.{Field}
-use Rattle.fdoca.specs.Check.{Entry, goodSDA, checkSDA, checkRLO, checkCPT, checkTriplets, begin, check}
+use Rattle.fdoca.specs.Check.{Entry, goodSDA, checkSDA, checkRow, checkCPT, checkTriplets, begin, check}
 use Rattle.fdoca.specs.Unfolding.{Described, array, row, fieldsOf, Layouts, closed, unfoldTriplets, start, unfolded, addFields}
 use Rattle.fdoca.specs.Between.{tripletsAt, entries, state}
-use Rattle.plans.specs.Tied.{describedBy, groupsAt, groupsIn, Groups, Takes, SdaKept, Tied, Known, listOf}
+use Rattle.plans.specs.Tied.{describedBy, kindOf, kindAt, groupsAt, groupsIn, Groups, Makes, SdaKept, Tied, Known, listOf}
 use Rattle.sdas.specs.Tables.{Agrees}
 use Rattle.sdas.specs.Judged.{described}
 use Rattle.sdas.specs.Kept.{PutSDA}
@@ -21,19 +21,18 @@ use Rattle.descriptors.specs.declared.Step.{Step}
 use Rattle.descriptors.specs.declared.Examined.{Examined}
 
 -- A group of a row at p refers to one of the described ids ds, whose triplet stands before p.
-pub record RefersIn (s : List ℕ) (ds : List (ℕ × Described)) (p : ℕ) (g : Group) : Type 0 where
+pub record RefersIn (kind : Kind) (s : List ℕ) (ds : List (ℕ × Described)) (p : ℕ) (g : Group) : Type 0 where
   pub to : Described
   pub known : lookup (g .ref) ds ≡ some to
   pub back : getD s (g .ref) 0 < p
   pub id-fits : g .ref < 256
-  pub repeats : 0 < g .factor
-  pub takes : Takes (g .taken) to
+  pub makes : Makes kind g to
 
--- The triplets at p, an RLO with its CPTs, make the list l.
+-- The triplets at p, an RLO or a GDA with its CPTs, make the list l.
 pub record RowIn (d s : List ℕ) (ds : List (ℕ × Described)) (p : ℕ) (l : List Field) : Type 0 where
   pub head : p + 3 ≤ length d
-  pub fields : l ≡ addFields ds [] (groupsAt d p)
-  pub groups : Groups (RefersIn s ds p) (getD d p 0 - 3) (drop (p + 3) d)
+  pub fields : l ≡ addFields (kindAt d p) ds [] (groupsAt d p)
+  pub groups : Groups (RefersIn (kindAt d p) s ds p) (getD d p 0 - 3) (drop (p + 3) d)
 
 pub record RowKeptIn (d s e : List ℕ) (ds : List (ℕ × Described)) (i : ℕ) (l : List Field) : Type 0 where
   pub unmarked : getD e i 0 ≡ 0
@@ -51,7 +50,7 @@ pub record Placed (d s z e : List ℕ) (ds : List (ℕ × Described)) (p i : ℕ
 
 -- The tables of positions, sizes and plan entries have the described ids ds, whose triplets stand before p.
 pub record Tables (d s z e : List ℕ) (ds : List (ℕ × Described)) (p : ℕ) : Type 0 where
-  pub agrees : Agrees s z (entries ds)
+  pub agrees : Agrees s z e (entries ds)
   pub placed : (i : ℕ) (D : Described) → lookup i ds ≡ some D → Placed d s z e ds p i D
   pub sizes : (length s ≡ 256) × (length z ≡ 256) × (length e ≡ 256)
 
@@ -70,21 +69,23 @@ pub record RowSoFar (d s : List ℕ) (ds : List (ℕ × Described)) (p at : ℕ)
   pub long : 6 ≤ getD d at 0
   pub before : at + getD d at 0 ≤ p
   pub groups : List Group
-  pub fields : l ≡ addFields ds [] groups
+  pub fields : l ≡ addFields (kindAt d at) ds [] groups
   pub all : groupsAt d at ≡ groups ++ groupsIn 0 (drop p d)
-  pub rest : Groups (RefersIn s ds at) 0 (drop p d) → Groups (RefersIn s ds at) (getD d at 0 - 3) (drop (at + 3) d)
+  pub rest : Groups (RefersIn (kindAt d at) s ds at) 0 (drop p d) → Groups (RefersIn (kindAt d at) s ds at) (getD d at 0 - 3) (drop (at + 3) d)
 
 -- A row that a CPT may continue.
-pub record AtHand (d s : List ℕ) (ds : List (ℕ × Described)) (p : ℕ) (x : Step) (id : ℕ) (l : List Field) : Type 0 where
-  pub at-hand : x .row ≡ true
+pub record AtHand (d s : List ℕ) (ds : List (ℕ × Described)) (p : ℕ) (x : Step) (id : ℕ) (l : List Field) (kind : Kind) : Type 0 where
+  pub at-hand : x .head ≢ 0
+  pub same-head : x .head ≡ getD d (x .at + 1) 0
+  pub same-kind : kindOf (x .head) ≡ kind
   pub same-id : x .id ≡ id
   pub free : lookup id ds ≡ none
   pub earlier : (i : ℕ) (D : Described) → lookup i ds ≡ some D → getD s i 0 < x .at
   pub so-far : RowSoFar d s ds p (x .at) l
 
-abbrev pub Current : (d s : List ℕ) → List (ℕ × Described) → ℕ → Step → Option (ℕ × List Field) → Type 0
-Current d s ds p x none = x .row ≡ false
-Current d s ds p x (some r) = AtHand d s ds p x (r .0) (r .1)
+abbrev pub Current : (d s : List ℕ) → List (ℕ × Described) → ℕ → Step → Option (ℕ × List Field × Kind) → Type 0
+Current d s ds p x none = x .head ≡ 0
+Current d s ds p x (some r) = AtHand d s ds p x (r .0) (r .1) (r .2)
 
 -- The last described id and its count; id 0 stands for none.
 abbrev pub Last : Step → List (ℕ × Described) → Type 0
@@ -112,36 +113,36 @@ pub record ClosedRow (d s z e s′ z′ e′ : List ℕ) (p : ℕ) (x : Step) : 
 -- A step that describes nothing.
 pub record Bare (number : ℕ) (r : Step) : Type 0 where
   pub numbered : r .number ≡ number
-  pub no-row : r .row ≡ false
+  pub no-row : r .head ≡ 0
   pub no-id : r .id ≡ 0
   pub no-count : r .count ≡ 0
 
 -- What a step over an SDA's bytes t at p gives, with the tables before and after it.
 pub record SteppedSDA (t : List ℕ) (p : ℕ) (s z e s′ z′ e′ : List ℕ) (r : Step) : Type 0 where
-  pub refuses : (es : List (ℕ × Entry)) → Agrees s z es → r .number ≢ 0 → checkSDA es p t ≡ refuse (r .number) p
-  pub accepts : (es : List (ℕ × Entry)) → Agrees s z es → r .number ≡ 0 → checkSDA es p t ≡ ok (described (idOf t) (extentsOf t) es)
+  pub refuses : (es : List (ℕ × Entry)) → Agrees s z e es → r .number ≢ 0 → checkSDA es p t ≡ refuse (r .number) p
+  pub accepts : (es : List (ℕ × Entry)) → Agrees s z e es → r .number ≡ 0 → checkSDA es p t ≡ ok (described (idOf t) (codeOf t) (extentsOf t) es)
   pub puts : r .number ≡ 0 → PutSDA t p s z e s′ z′ e′
   pub good : r .number ≡ 0 → goodSDA t ≡ true
-  pub told : r .number ≡ 0 → (r .row ≡ false) × (r .id ≡ idOf t) × (r .count ≡ product (extentsOf t))
+  pub told : r .number ≡ 0 → (r .head ≡ 0) × (r .id ≡ idOf t) × (r .count ≡ product (extentsOf t))
   pub small : r .count ≤ 4096
 
--- What a step over an RLO's bytes t at p gives.
-pub record SteppedRLO (t : List ℕ) (p : ℕ) (s z : List ℕ) (r : Step) : Type 0 where
-  pub refuses : (es : List (ℕ × Entry)) → Agrees s z es → r .number ≢ 0 → checkRLO es p t ≡ refuse (r .number) p
-  pub accepts : (es : List (ℕ × Entry)) → Agrees s z es → r .number ≡ 0 → checkRLO es p t ≡ ok (rowAtHand (idOf t) (r .count) es)
-  pub told : r .number ≡ 0 → (r .row ≡ true) × (r .id ≡ idOf t) × (r .at ≡ p)
+-- What a step over the bytes t of an RLO or a GDA at p gives.
+pub record SteppedRow (t : List ℕ) (p : ℕ) (s z e : List ℕ) (r : Step) : Type 0 where
+  pub refuses : (es : List (ℕ × Entry)) → Agrees s z e es → r .number ≢ 0 → checkRow (kindOf (getD t 1 0)) es p t ≡ refuse (r .number) p
+  pub accepts : (es : List (ℕ × Entry)) → Agrees s z e es → r .number ≡ 0 → checkRow (kindOf (getD t 1 0)) es p t ≡ ok (rowAtHand (kindOf (getD t 1 0)) (idOf t) (r .count) es)
+  pub told : r .number ≡ 0 → (r .head ≡ getD t 1 0) × (r .id ≡ idOf t) × (r .at ≡ p)
   pub good : r .number ≡ 0 → GoodRow t
   pub id-given : r .number ≡ 0 → (idOf t ≢ 0) × (idOf t < 256)
   pub small : r .count ≤ 4096
 
 -- What a step over a CPT's bytes t gives, x being the step before.
-pub record SteppedCPT (t s z : List ℕ) (x r : Step) : Type 0 where
-  pub no-row : x .row ≡ false → r .number ≡ 4
-  pub refuses : (p id : ℕ) (es : List (ℕ × Entry)) → Agrees s z es → x .row ≡ true → r .number ≢ 0
-      → checkCPT (rowAtHand id (x .count) es) p t ≡ refuse (r .number) p
-  pub accepts : (p id : ℕ) (es : List (ℕ × Entry)) → Agrees s z es → x .row ≡ true → r .number ≡ 0
-      → checkCPT (rowAtHand id (x .count) es) p t ≡ ok (rowAtHand id (r .count) es)
-  pub told : r .number ≡ 0 → (r .row ≡ true) × (r .id ≡ x .id) × (r .at ≡ x .at)
+pub record SteppedCPT (t s z e : List ℕ) (x r : Step) : Type 0 where
+  pub no-row : x .head ≡ 0 → r .number ≡ 4
+  pub refuses : (p id : ℕ) (es : List (ℕ × Entry)) → Agrees s z e es → x .head ≢ 0 → r .number ≢ 0
+      → checkCPT (rowAtHand (kindOf (x .head)) id (x .count) es) p t ≡ refuse (r .number) p
+  pub accepts : (p id : ℕ) (es : List (ℕ × Entry)) → Agrees s z e es → x .head ≢ 0 → r .number ≡ 0
+      → checkCPT (rowAtHand (kindOf (x .head)) id (x .count) es) p t ≡ ok (rowAtHand (kindOf (x .head)) id (r .count) es)
+  pub told : r .number ≡ 0 → (r .head ≡ x .head) × (r .id ≡ x .id) × (r .at ≡ x .at)
   pub good : r .number ≡ 0 → GoodRow t
   pub small : r .count ≤ 4096
 

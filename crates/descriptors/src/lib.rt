@@ -5,14 +5,14 @@ ghost use lib.ListN.{length, getD, replicate};
 ghost use Rattle.fdoca.specs.Check.{check};
 ghost use Rattle.fdoca.specs.Calls.{checked};
 ghost use Rattle.sdas.specs.Tables.{Agreeing};
-ghost use Rattle.descriptors.specs.Holds.{MakesSame, Held, ClosedRow, SteppedSDA, SteppedRLO, SteppedCPT, Advanced, Bare, Examination};
+ghost use Rattle.descriptors.specs.Holds.{MakesSame, Held, ClosedRow, SteppedSDA, SteppedRow, SteppedCPT, Advanced, Bare, Examination};
 use fdoca::Checked;
 
-// What the triplets so far have led to: a refusal's number, or the SDA or RLO that was described last, with its id (0 for none) and its count.
-// `row` is set while a CPT may continue an RLO, and `at` is then its place.
+// What the triplets so far have led to: a refusal's number, or the SDA, RLO or GDA that was described last, with its id (0 for none) and its
+// count. `head` is the construct type of an RLO or a GDA while a CPT may continue it, and `at` is then its place; else it is 0.
 pub struct Step {
     pub number: u8,
-    pub row: bool,
+    pub head: u8,
     pub id: u8,
     pub at: usize,
     pub count: usize,
@@ -31,6 +31,8 @@ const SDA: u8 = 0x70;
 
 const RLO: u8 = 0x71;
 
+const GDA: u8 = 0x75;
+
 const ISD: u8 = 0x7E;
 
 const CPT: u8 = 0x7F;
@@ -41,7 +43,7 @@ fn bare(number: u8) -> Step
 {
     Step {
         number: number,
-        row: false,
+        head: 0,
         id: 0,
         at: 0,
         count: 0,
@@ -80,7 +82,7 @@ fn close(
     requires { ⌜ Held (now desc) (now starts) (now sizes) (now entries) p x × (length (now desc) ≤ 4096) ⌝ }
     ensures { λ _. ⌜ ClosedRow (now (desc .entry)) (now (starts .entry)) (now (sizes .entry)) (now (entries .entry)) (now (starts .exit)) (now (sizes .exit)) (now (entries .exit)) p x ⌝ }
 {
-    if !x.row {
+    if x.head == 0 {
         return;
     }
     let place = row_place(desc, starts, entries, x.at, p);
@@ -107,44 +109,58 @@ fn sda_step(
     sdas::put_sda(t, p, judged, starts, sizes, entries);
     Step {
         number: 0,
-        row: false,
+        head: 0,
         id: t[2],
         at: p,
         count: judged.count,
     }
 }
 
-fn rlo_step(t: &[u8], p: usize, starts: &[u16; 256], sizes: &[u32; 256]) -> Step
-    requires { ⌜ Agreeing (now starts) (now sizes) ⌝ }
-    ensures { λ r. ⌜ SteppedRLO (now (t .entry)) p (now (starts .entry)) (now (sizes .entry)) r ⌝ }
+fn row_step(
+    t: &[u8],
+    p: usize,
+    starts: &[u16; 256],
+    sizes: &[u32; 256],
+    entries: &[u64; 256],
+) -> Step
+    requires { ⌜ Agreeing (now starts) (now sizes) (now entries) ⌝ }
+    ensures { λ r. ⌜ SteppedRow (now (t .entry)) p (now (starts .entry)) (now (sizes .entry)) (now (entries .entry)) r ⌝ }
 {
-    let judged = triplets::judge_rlo(t, starts, sizes);
+    let judged = triplets::judge_row(t, starts, sizes, entries);
     if judged.number != 0 {
         return bare(judged.number);
     }
+    let head = t[1];
+    let id = t[2];
     Step {
         number: 0,
-        row: true,
-        id: t[2],
+        head: head,
+        id: id,
         at: p,
         count: judged.count,
     }
 }
 
-fn cpt_step(t: &[u8], starts: &[u16; 256], sizes: &[u32; 256], x: Step) -> Step
-    requires { ⌜ Agreeing (now starts) (now sizes) × (x .count ≤ 4096) ⌝ }
-    ensures { λ r. ⌜ SteppedCPT (now (t .entry)) (now (starts .entry)) (now (sizes .entry)) x r ⌝ }
+fn cpt_step(
+    t: &[u8],
+    starts: &[u16; 256],
+    sizes: &[u32; 256],
+    entries: &[u64; 256],
+    x: Step,
+) -> Step
+    requires { ⌜ Agreeing (now starts) (now sizes) (now entries) × (x .count ≤ 4096) ⌝ }
+    ensures { λ r. ⌜ SteppedCPT (now (t .entry)) (now (starts .entry)) (now (sizes .entry)) (now (entries .entry)) x r ⌝ }
 {
-    if !x.row {
+    if x.head == 0 {
         return bare(4);
     }
-    let judged = triplets::judge_cpt(t, starts, sizes, x.count);
+    let judged = triplets::judge_cpt(t, x.head, starts, sizes, entries, x.count);
     if judged.number != 0 {
         return bare(judged.number);
     }
     Step {
         number: 0,
-        row: true,
+        head: x.head,
         id: x.id,
         at: x.at,
         count: judged.count,
@@ -174,14 +190,17 @@ fn advance(
     let t = &desc[p..end];
     let kind = t[1];
     if kind == CPT {
-        return cpt_step(t, starts, sizes, x);
+        return cpt_step(t, starts, sizes, entries, x);
     }
     close(desc, starts, sizes, entries, p, x);
     if kind == SDA {
         return sda_step(t, p, starts, sizes, entries);
     }
     if kind == RLO {
-        return rlo_step(t, p, starts, sizes);
+        return row_step(t, p, starts, sizes, entries);
+    }
+    if kind == GDA {
+        return row_step(t, p, starts, sizes, entries);
     }
     if kind == ISD {
         return bare(triplets::judge_isd(t, p));

@@ -66,7 +66,7 @@ before-from x y h = let l : x .head < y .head = omega (arith, x .high, y .low) i
 
 pub descriptor-from : {d t : List ℕ} {m p : ℕ} → OfDescriptor d t m p → From 1 3 t
 descriptor-from (OfDescriptor.oversize h) = from 1 3 1 [] (omega arith) (omega arith)
-descriptor-from (R.triplet {j = j} {g = g} {m = m} h r) = from 1 3 2 (j ∷ g ∷ m ∷ []) (omega arith) (omega arith)
+descriptor-from (R.triplet {j = j} {g = g} {step = v} h r) = from 1 3 2 (j ∷ g ∷ v ∷ []) (omega arith) (omega arith)
 descriptor-from (nothing-described h) = from 1 3 3 [] (omega arith) (omega arith)
 
 pub items-from : {fs : List Field} {s t : List ℕ} {m p : ℕ} → OfItems fs s t m p → From 5 6 t

@@ -1,6 +1,6 @@
 -- The check refuses a descriptor for its first reason in document 01's order, and accepts it where it has none.
 -- Assumes nothing.
-use mathlib.Core.Path.{_≡_, refl, sym, ap}
+use mathlib.Core.Path.{_≡_, refl, ap}
 use mathlib.Core.Logic.{_⊎_, inl, inr}
 use Prim.Native.Nat.{ℕ, zero, suc, _+_, _-_, _≤_, _<_}
 use native.Mathlib.Omega.{arith}
@@ -14,29 +14,29 @@ use Rattle.fdoca.specs.Basics.{Result, refuse, ok, _>>=_, _>>_, reject}
 use Rattle.fdoca.specs.Triplet.{triplets}
 use Rattle.fdoca.specs.Triplet as T
 use Rattle.fdoca.specs.Check.{Entry, State, closed, maxDescriptor, checkTriplet, checkTriplets, begin, lastCount, check}
-use Rattle.fdoca.specs.Reasons.{place, LENGTH, NotTorn, There, Is, Describes, below-2, past-the-end, OfTriplet, torn, OfDescriptor, oversize, nothing-described, Earlier, here, further, First}
+use Rattle.fdoca.specs.Reasons.{place, LENGTH, NotTorn, There, Is, HasGroups, Describes, below-2, past-the-end, OfTriplet, torn, OfDescriptor, oversize, nothing-described, Earlier, here, further, First}
 use Rattle.fdoca.specs.Reasons as R
 use Rattle.fdoca.specs.Between.{tripletsAt}
 use Rattle.fdoca.proofs.Tests.{by-order}
 use Rattle.fdoca.proofs.Triplets.{triplets-end, triplets-short, triplets-past, triplets-next}
 use Rattle.fdoca.proofs.TripletBytes.{bytesOf}
-use Rattle.fdoca.proofs.TripletRows.{Clear, Judged, refused, passed, first-number}
+use Rattle.fdoca.proofs.TripletRows.{Clear, Judged, refused, passed, first-step, one-number}
 use Rattle.fdoca.proofs.Groups.{Known}
 use Rattle.fdoca.proofs.TripletSteps.{Before, no-row, closed-known, judge-triplet}
 use Rattle.fdoca.proofs.FirstReasons as F
 
 -- the first triplets have no reason
 abbrev NoneBefore : List ℕ → ℕ → Type 0
-NoneBefore d j = (i : ℕ) → i < j → (g m : ℕ) → OfTriplet d i g m → ⊥
+NoneBefore d j = (i : ℕ) → i < j → (g s m : ℕ) → OfTriplet d i g s m → ⊥
 
 -- the check of all triplets: the first reason of the first triplet that has one, or what is known behind the last
 data Ran (d : List ℕ) : Result State → Type 0 where
-  stopped : {j g m p : ℕ} → There d j → p ≡ place d j → OfTriplet d j g m → Clear d j g m → NoneBefore d j → Ran d (refuse m p)
+  stopped : {j g s m p : ℕ} → There d j → p ≡ place d j → OfTriplet d j g s m → Clear d j g s → NoneBefore d j → Ran d (refuse m p)
   ran : {j : ℕ} {st : State} → Before d j st → place d j ≡ length d → NoneBefore d j → Ran d (ok st)
 
-none-more : {d : List ℕ} {j : ℕ} → NoneBefore d j → ((g m : ℕ) → OfTriplet d j g m → ⊥) → NoneBefore d (suc j)
-none-more {d} {j} f n i h g m r =
-    by-order i j (λ l. f i l g m r) (λ e. n g m (rw e at r)) (λ l. let z : ⊥ = omega arith in z)
+none-more : {d : List ℕ} {j : ℕ} → NoneBefore d j → ((g s m : ℕ) → OfTriplet d j g s m → ⊥) → NoneBefore d (suc j)
+none-more {d} {j} f n i h g s m r =
+    by-order i j (λ l. f i l g s m r) (λ e. n g s m (rw e at r)) (λ l. let z : ⊥ = omega arith in z)
 
 place-next : (d : List ℕ) (j : ℕ) → place d (suc j) ≡ place d j + LENGTH d j
 unfolding place
@@ -54,7 +54,7 @@ module _ (d : List ℕ) (j : ℕ) (st : State) (b : Before d j st) (n : NoneBefo
 
     run-torn : R.Torn d j → tripletsAt d (place d j) ≡ T.torn (place d j) ∷ [] → Ran d (checkTriplets st (tripletsAt d (place d j)))
     unfolding checkTriplets checkTriplet
-    run-torn t e = rw e (stopped here-is refl (torn t) first-number n)
+    run-torn t e = rw e (stopped here-is refl (torn t) first-step n)
 
     -- what comes of the next triplet is handed on
     run-on : (x : Result State) → Judged d j (Before d (suc j)) x
@@ -115,20 +115,21 @@ all-run d =
 
 module _ (d : List ℕ) (small : length d ≤ maxDescriptor) where
   -- the first reason of a triplet is the first of all
-  triplet-first : {j g m : ℕ} → There d j → OfTriplet d j g m → Clear d j g m → NoneBefore d j → First (OfDescriptor d) m (place d j)
-  triplet-first {j} {g} {m} h r c n = record { turn = 2 ∷ j ∷ g ∷ m ∷ []; reason = R.triplet h r; others-later = λ t u q x. others x }
+  triplet-first : {j g s m : ℕ} → There d j → OfTriplet d j g s m → Clear d j g s → NoneBefore d j → First (OfDescriptor d) m (place d j)
+  triplet-first {j} {g} {s} {m} h r c n = record { turn = 2 ∷ j ∷ g ∷ s ∷ []; reason = R.triplet h r; others-later = λ t u q x. others x }
     where
-      in-group : {k u : ℕ} → (g < k) ⊎ ((k ≡ g) × (m ≤ u))
-          → Earlier (2 ∷ j ∷ g ∷ m ∷ []) (2 ∷ j ∷ k ∷ u ∷ []) ⊎ ((2 ∷ j ∷ k ∷ u ∷ [] ≡ 2 ∷ j ∷ g ∷ m ∷ []) × (u ≡ m) × (place d j ≡ place d j))
-      in-group (inl l) = inl (further (further (here l)))
-      in-group {k} {u} (inr e) =
+      in-group : {k v u : ℕ} → OfTriplet d j k v u → (g < k) ⊎ ((k ≡ g) × (s ≤ v))
+          → Earlier (2 ∷ j ∷ g ∷ s ∷ []) (2 ∷ j ∷ k ∷ v ∷ []) ⊎ ((2 ∷ j ∷ k ∷ v ∷ [] ≡ 2 ∷ j ∷ g ∷ s ∷ []) × (u ≡ m) × (place d j ≡ place d j))
+      in-group x (inl l) = inl (further (further (here l)))
+      in-group {k} {v} {u} x (inr e) =
           rw (e .0)
-          (by-order m u (λ l. inl (further (further (further (here l))))) (λ q. inr (rw q, sym q, refl)) (λ l. absurd (let z : ⊥ = omega (arith, e .1) in z)))
+          (by-order s v (λ l. inl (further (further (further (here l))))) (λ q. inr (rw q, one-number (rw (e .0, ← q) at x) r, refl))
+          (λ l. absurd (let z : ⊥ = omega (arith, e .1) in z)))
 
-      others : {t : List ℕ} {u q : ℕ} → OfDescriptor d t u q → Earlier (2 ∷ j ∷ g ∷ m ∷ []) t ⊎ ((t ≡ 2 ∷ j ∷ g ∷ m ∷ []) × (u ≡ m) × (q ≡ place d j))
+      others : {t : List ℕ} {u q : ℕ} → OfDescriptor d t u q → Earlier (2 ∷ j ∷ g ∷ s ∷ []) t ⊎ ((t ≡ 2 ∷ j ∷ g ∷ s ∷ []) × (u ≡ m) × (q ≡ place d j))
       others (oversize l) = absurd (let z : ⊥ = omega arith in z)
-      others (R.triplet {j = i} {g = k} {m = u} a x) =
-          by-order i j (λ l. absurd (n i l k u x)) (λ e. rw e (in-group (c k u (rw e at x)))) (λ l. inl (further (here l)))
+      others (R.triplet {j = i} {g = k} {step = v} {m = u} a x) =
+          by-order i j (λ l. absurd (n i l k v u x)) (λ e. rw e (in-group (rw e at x) (c k v u (rw e at x)))) (λ l. inl (further (here l)))
       others (nothing-described f) = inl (here {a = 2} {b = 3} (omega arith))
 
   -- behind the last triplet
@@ -145,9 +146,10 @@ module _ (d : List ℕ) (small : length d ≤ maxDescriptor) where
     describer : {id i : ℕ} → Describes d id i → There d i
     describer {id} {i} h = go (h .kind)
       where
-        go : Is d R.sda i ⊎ Is d R.rlo i → There d i
+        go : Is d R.sda i ⊎ HasGroups d i → There d i
         go (inl k) = k .there
-        go (inr k) = k .there
+        go (inr (inl k)) = k .there
+        go (inr (inr k)) = k .there
 
     last-told : (es : List (ℕ × Entry)) → Known d j es → F.Told (OfDescriptor d) (lastCount (length d) es)
     last-told [] k = F.refused (record { turn = 3 ∷ []; reason = nothing-described none-there; others-later = λ t u q x. others x })
@@ -157,7 +159,7 @@ module _ (d : List ℕ) (small : length d ≤ maxDescriptor) where
 
         others : {t : List ℕ} {u q : ℕ} → OfDescriptor d t u q → Earlier (3 ∷ []) t ⊎ ((t ≡ 3 ∷ []) × (u ≡ 11) × (q ≡ length d))
         others (oversize l) = absurd (let z : ⊥ = omega arith in z)
-        others (R.triplet {j = i} {g = g} {m = m} h x) = absurd (n i (all-before i h) g m x)
+        others (R.triplet {j = i} {g = g} {step = v} {m = m} h x) = absurd (n i (all-before i h) g v m x)
         others (nothing-described f) = inr (refl, refl, refl)
     last-told (x ∷ es) k = F.accepted (λ t m p r. none r)
       where
@@ -166,7 +168,7 @@ module _ (d : List ℕ) (small : length d ≤ maxDescriptor) where
 
         none : {t : List ℕ} {m p : ℕ} → OfDescriptor d t m p → ⊥
         none (oversize l) = omega arith
-        none (R.triplet {j = i} {g = g} {m = m} h r) = n i (all-before i h) g m r
+        none (R.triplet {j = i} {g = g} {step = v} {m = m} h r) = n i (all-before i h) g v m r
         none (nothing-described f) = f (x .0) (some-there .0) (some-there .1)
 
   ran-told : (x : Result State) → Ran d x → F.Told (OfDescriptor d) (x >>= (λ st. lastCount (length d) (closed st)))

@@ -1,5 +1,5 @@
 -- The count that the check gives of an accepted descriptor is the length of its unfolding.
--- The check's state is at every triplet the image of the unfolding's: extents for fields with extents, counts for lists.
+-- The check's state is at every triplet the image of the unfolding's: type codes and extents for fields with extents, counts for lists.
 -- Assumes nothing.
 use mathlib.Core.Path.{_≡_, refl, sym, ap, _∙_}
 use Prim.Native.Nat.{ℕ, zero, suc, _+_, _*_}
@@ -11,7 +11,7 @@ use mathlib.Core.Option.{Option, none, some}
 use lib.Dec.{ltb, eqb}
 use lib.ListN.{length, length-append, length-replicate}
 use Rattle.fdoca.specs.Basics.{if_then_else_, elem, lookup, repeat, product, ok}
-use Rattle.fdoca.specs.Triplet.{Triplet, torn, triplet, triplets, Construct, SDA, RLO, ISD, CPT, constructOf, idOf, codeOf, parametersOf, extentsOf, Group, groupsOf}
+use Rattle.fdoca.specs.Triplet.{Triplet, torn, triplet, triplets, Construct, SDA, RLO, GDA, ISD, CPT, Kind, rowLayout, groupArray, constructOf, idOf, codeOf, parametersOf, extentsOf, Group, taken, factor, groupsOf}
 use Rattle.fdoca.specs.FieldType.{FieldType, typeOf}
 use Rattle.fdoca.specs.Item.{Field}
 use Rattle.fdoca.specs.Between.{entry, entries, rowCounted, state}
@@ -34,7 +34,7 @@ lookup-entries i (d ∷ ds) = rw (lookup-entries i ds) (entry-if (eqb i (d .0)) 
 pub closed-state : (u : U.Layouts) → C.closed (state u) ≡ entries (U.closed u)
 closed-state u = go (u .current)
   where
-    go : (o : Option (ℕ × List Field)) → C.closeRow (entries (u .described)) (rowCounted o) ≡ entries (U.closeRow (u .described) o)
+    go : (o : Option (ℕ × List Field × Kind)) → C.closeRow (entries (u .described)) (rowCounted o) ≡ entries (U.closeRow (u .described) o)
     go none = refl
     go (some r) = refl
 
@@ -52,25 +52,37 @@ length-taken (suc k) (U.array f []) m e = cc
 length-taken (suc k) (U.array f (x ∷ xs)) m e = length-replicate (suc k * product xs) f ∙ cc
 length-taken (suc k) (U.row l) m e = cc
 
-add-group : (p n : ℕ) (g : Group) (o : Option U.Described)
-    → IfOk (λ m. m ≡ n + length (repeat (g .factor) (U.fieldsReferred (g .taken) o))) (C.addGroup p n g (entry? o))
-unfolding C.addGroup
-add-group p n g none = none-owed
-add-group p n g (some d) =
-    reject-all (eqb (g .factor) 0) 9 p
-    (λ h. the-all (C.countTaken (g .taken) (entry d)) 9 p
-    (λ k e. reject-all (ltb C.maxItems (n + g .factor * k)) 10 p
-    (λ h′. holds (rw (length-repeat, length-taken (g .taken) d k e)))))
+length-column : (g : Group) (d : U.Described) → not (C.fits g (entry d)) ≡ false → 1 ≡ length (U.columnReferred g (some d))
+length-column g (U.array f []) h = refl
+length-column g (U.array f (x ∷ xs)) h = absurd (true≢false h)
+length-column g (U.row l) h = absurd (true≢false h)
 
-add-groups : (p : ℕ) (ds : List (ℕ × U.Described)) (l : List Field) (gs : List Group)
-    → IfOk (λ m. m ≡ length (U.addFields ds l gs)) (C.addGroups p (entries ds) (length l) gs)
+count-added : (kind : Kind) (p : ℕ) (g : Group) (d : U.Described) → IfOk (λ k. k ≡ length (U.fieldsAdded kind g (some d))) (C.countAdded kind p g (entry d))
+unfolding C.countAdded
+count-added rowLayout p g d =
+    reject-all (eqb (factor g) 0) 9 p
+    (λ h. the-all (C.countTaken (taken g) (entry d)) 9 p
+    (λ k e. holds (rw (length-repeat, length-taken (taken g) d k e))))
+count-added groupArray p g d = reject-all (not (C.fits g (entry d))) 21 p (λ h. holds (length-column g d h))
+
+add-group : (kind : Kind) (p n : ℕ) (g : Group) (o : Option U.Described)
+    → IfOk (λ m. m ≡ n + length (U.fieldsAdded kind g o)) (C.addGroup kind p n g (entry? o))
+unfolding C.addGroup
+add-group kind p n g none = none-owed
+add-group kind p n g (some d) =
+    bind-all (C.countAdded kind p g (entry d)) (count-added kind p g d)
+    (λ k e. reject-all (ltb C.maxItems (n + k)) 10 p
+    (λ h. holds (rw e)))
+
+add-groups : (kind : Kind) (p : ℕ) (ds : List (ℕ × U.Described)) (l : List Field) (gs : List Group)
+    → IfOk (λ m. m ≡ length (U.addFields kind ds l gs)) (C.addGroups kind p (entries ds) (length l) gs)
 unfolding C.addGroups U.addFields
-add-groups p ds l [] = holds refl
-add-groups p ds l (g ∷ gs) =
+add-groups kind p ds l [] = holds refl
+add-groups kind p ds l (g ∷ gs) =
     rw (lookup-entries (g .ref) ds)
-    (bind-all (C.addGroup p (length l) g (entry? (lookup (g .ref) ds))) (add-group p (length l) g (lookup (g .ref) ds))
-    (λ m e. let e′ : m ≡ length (l ++ U.groupFields ds g) = e ∙ sym (length-append l (U.groupFields ds g)) in
-    rw e′ (add-groups p ds (l ++ U.groupFields ds g) gs)))
+    (bind-all (C.addGroup kind p (length l) g (entry? (lookup (g .ref) ds))) (add-group kind p (length l) g (lookup (g .ref) ds))
+    (λ m e. let e′ : m ≡ length (l ++ U.groupFields kind ds g) = e ∙ sym (length-append l (U.groupFields kind ds g)) in
+    rw e′ (add-groups kind p ds (l ++ U.groupFields kind ds g) gs)))
 
 -- a type or parameters that are not good are refused, and so is a type code without a rule
 pub bad-type : (t : List ℕ) → C.goodType (typeOf (codeOf t)) (parametersOf t) ≡ false → C.goodSDA t ≡ false
@@ -96,24 +108,24 @@ check-SDA u p t (some T) e =
     (λ h₂. reject-all (ltb C.maxItems (product (extentsOf t))) 10 p
     (λ h₃. holds refl))))
 
-check-RLO : (u : U.Layouts) (p : ℕ) (t : List ℕ) → IfOk (λ st. st ≡ state (U.unfoldRLO u t)) (C.checkRLO (entries (U.closed u)) p t)
-unfolding C.checkRLO U.unfoldRLO
-check-RLO u p t =
+check-row : (kind : Kind) (u : U.Layouts) (p : ℕ) (t : List ℕ) → IfOk (λ st. st ≡ state (U.unfoldRow kind u t)) (C.checkRow kind (entries (U.closed u)) p t)
+unfolding C.checkRow U.unfoldRow
+check-row kind u p t =
     reject-all (not (C.goodLengthRow t)) 5 p
     (λ h. reject-all (eqb (idOf t) 0) 6 p
     (λ h₁. reject-all (C.isDescribed (idOf t) (entries (U.closed u))) 7 p
-    (λ h₂. bind-all (C.addGroups p (entries (U.closed u)) 0 (groupsOf t)) (add-groups p (U.closed u) [] (groupsOf t)) (λ n e. holds (rw e)))))
+    (λ h₂. bind-all (C.addGroups kind p (entries (U.closed u)) 0 (groupsOf t)) (add-groups kind p (U.closed u) [] (groupsOf t)) (λ n e. holds (rw e)))))
 
 check-CPT : (u : U.Layouts) (p : ℕ) (t : List ℕ) → IfOk (λ st. st ≡ state (U.unfoldCPT (u .current) u t)) (C.checkCPT (state u) p t)
 unfolding C.checkCPT U.unfoldCPT
 check-CPT u p t = go (u .current)
   where
-    go : (o : Option (ℕ × List Field))
+    go : (o : Option (ℕ × List Field × Kind))
         → IfOk (λ st. st ≡ state (U.unfoldCPT o u t)) (C.checkCPT (record { described = entries (u .described); current = rowCounted o }) p t)
     go none = none-owed
     go (some r) =
         reject-all (not (C.goodLengthRow t)) 5 p (λ h. reject-all (not (eqb (idOf t) 0)) 6 p
-        (λ h₁. bind-all (C.addGroups p (entries (u .described)) (length (r .1)) (groupsOf t)) (add-groups p (u .described) (r .1) (groupsOf t))
+        (λ h₁. bind-all (C.addGroups (r .2) p (entries (u .described)) (length (r .1)) (groupsOf t)) (add-groups (r .2) p (u .described) (r .1) (groupsOf t))
         (λ n e. holds (rw e))))
 
 check-ISD : (u : U.Layouts) (p : ℕ) (t : List ℕ) → IfOk (λ st. st ≡ state u) (C.checkISD (state u) p t)
@@ -129,7 +141,8 @@ check-construct : (c : Option Construct) (u : U.Layouts) (p : ℕ) (t : List ℕ
 unfolding C.checkConstruct U.unfoldConstruct
 check-construct none u p t = none-owed
 check-construct (some SDA) u p t = rw (closed-state u) (check-SDA u p t (typeOf (codeOf t)) refl)
-check-construct (some RLO) u p t = rw (closed-state u) (check-RLO u p t)
+check-construct (some RLO) u p t = rw (closed-state u) (check-row rowLayout u p t)
+check-construct (some GDA) u p t = rw (closed-state u) (check-row groupArray u p t)
 check-construct (some ISD) u p t = check-ISD u p t
 check-construct (some CPT) u p t = check-CPT u p t
 

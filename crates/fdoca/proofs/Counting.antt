@@ -1,4 +1,4 @@
--- The counts of document 01's table are unique where no id is described twice: an SDA or RLO stands for one number of items, and so does the beginning
+-- The counts of document 01's table are unique where no id is described twice: an SDA, RLO or GDA stands for one number of items, and so does the beginning
 -- of a row.
 -- Assumes nothing.
 use mathlib.Core.Path.{_≡_, refl, ap}
@@ -6,9 +6,9 @@ use mathlib.Core.Logic.{_≢_}
 use Prim.Native.Nat.{ℕ, zero, suc, _*_, _≤_, _<_}
 use native.Mathlib.Omega.{arith}
 use mathlib.Core.List.{List}
-use Rattle.fdoca.specs.Reasons.{LENGTH, cpt, Is, Describes, InRow, taken, factor, Refers, extent, Lower, one, two, three, Counts, single, array, row, Adds, kept, replaced, UpTo, start, group, continued}
+use Rattle.fdoca.specs.Reasons.{LENGTH, rlo, gda, cpt, Is, Describes, InRow, taken, factor, Refers, extent, Lower, one, two, three, Counts, single, array, row, Adds, kept, replaced, column, UpTo, start, group, continued}
 use Rattle.fdoca.proofs.Tests.{by-order}
-use Rattle.fdoca.proofs.TripletTests.{clash}
+use Rattle.fdoca.proofs.TripletTests.{clash, row-clash}
 
 -- No two of the first b triplets describe the same id.
 abbrev pub Unique : List ℕ → ℕ → Type 0
@@ -49,7 +49,7 @@ module _ {d : List ℕ} where
 
   -- a triplet belongs to one row
   not-later : {r u j : ℕ} → InRow d r j → InRow d u j → r < u → ⊥
-  not-later {r} {u} {j} a b h = clash (b .head) (a .continued u h (b .behind)) (omega arith)
+  not-later {r} {u} {j} a b h = row-clash (b .head) (a .continued u h (b .behind)) (omega arith) (omega arith)
 
   pub one-row : {r u j : ℕ} → InRow d r j → InRow d u j → r ≡ u
   one-row {r} {u} {j} a b = by-order r u (λ h. absurd (not-later a b h)) (λ e. e) (λ h. absurd (not-later b a h))
@@ -66,24 +66,32 @@ module _ {d : List ℕ} where
     referred-same : {id q u : ℕ} → Refers d r id q → Refers d r id u → q ≡ u
     referred-same {id} {q} {u} a b = unique id q u (a .earlier) (b .earlier) (a .describes) (b .describes)
 
+    not-both : {A : Type 0} → Is d rlo r → Is d gda r → A
+    not-both a b = absurd (clash a b (omega arith))
+
     adds-same : {j k n m : ℕ} → Adds d r j k n → Adds d r j k m → n ≡ m
-    adds-same (kept {j = j} {k = k} {q = q} {n = n} a e c) (kept {q = u} {n = m} b h x) =
+    adds-same (kept {j = j} {k = k} {q = q} {n = n} w a e c) (kept {q = u} {n = m} v b h x) =
         let q≡u : q ≡ u = referred-same a b in
         ap (λ y. factor d j k * y) (same q n m (a .earlier) c (rw q≡u x))
-    adds-same (kept a e c) (replaced b h i l) = absurd (let z : ⊥ = omega arith in z)
-    adds-same (replaced a h i l) (kept b e c) = absurd (let z : ⊥ = omega arith in z)
-    adds-same (replaced {j = j} {k = k} {q = q} a h i l) (replaced {q = u} b g x y) =
+    adds-same (kept w a e c) (replaced v b h i l) = absurd (let z : ⊥ = omega arith in z)
+    adds-same (kept w a e c) (column v) = not-both w v
+    adds-same (replaced w a h i l) (kept v b e c) = absurd (let z : ⊥ = omega arith in z)
+    adds-same (replaced {j = j} {k = k} {q = q} w a h i l) (replaced {q = u} v b g x y) =
         let q≡u : q ≡ u = referred-same a b in
         ap (λ y. factor d j k * (taken d j k * y)) (lower-same l (rw q≡u y))
+    adds-same (replaced w a h i l) (column v) = not-both w v
+    adds-same (column w) (kept v b e c) = not-both v w
+    adds-same (column w) (replaced v b h i l) = not-both v w
+    adds-same (column w) (column v) = refl
 
   up-same : {r j k n m : ℕ} → Unique d r → Same d r → UpTo d r j k n → UpTo d r j k m → n ≡ m
   up-same x y (start i) (start h) = refl
-  up-same x y (start i) (continued u e h) = absurd (clash i h (omega arith))
+  up-same x y (start i) (continued u e h) = absurd (row-clash i h (omega arith) (omega arith))
   up-same x y (group {r = r} {n = n} {m = a} u g p) (group {n = m} {m = b} v h q) =
       let e₁ : n ≡ m = up-same x y u v in
       let e₂ : a ≡ b = adds-same r x y p q in
       rw (e₁, e₂)
-  up-same x y (continued u e i) (start h) = absurd (clash h i (omega arith))
+  up-same x y (continued u e i) (start h) = absurd (row-clash h i (omega arith) (omega arith))
   up-same x y (continued {k = k} u e i) (continued {k = l} v f h) =
       let k≡l : k ≡ l = omega arith in
       up-same x y u (rw k≡l v)
@@ -91,12 +99,12 @@ module _ {d : List ℕ} where
   row-same : {r n m : ℕ} → Unique d r → Same d r → Counts d r n → Counts d r m → n ≡ m
   row-same x y (single i e) (single h f) = refl
   row-same x y (single i e) (array h l) = absurd (lower-long l e)
-  row-same x y (single i e) (row u f g) = absurd (clash i (up-in-row u .head) (omega arith))
+  row-same x y (single i e) (row u f g) = absurd (row-clash (up-in-row u .head) i (omega arith) (omega arith))
   row-same x y (array i l) (single h f) = absurd (lower-long l f)
   row-same x y (array {q = q} i l) (array h m) = ap (λ z. extent d q 0 * z) (lower-same l m)
-  row-same x y (array i l) (row u f g) = absurd (clash i (up-in-row u .head) (omega arith))
-  row-same x y (row u f g) (single h e) = absurd (clash h (up-in-row u .head) (omega arith))
-  row-same x y (row u f g) (array h l) = absurd (clash h (up-in-row u .head) (omega arith))
+  row-same x y (array i l) (row u f g) = absurd (row-clash (up-in-row u .head) i (omega arith) (omega arith))
+  row-same x y (row u f g) (single h e) = absurd (row-clash (up-in-row u .head) h (omega arith) (omega arith))
+  row-same x y (row u f g) (array h l) = absurd (row-clash (up-in-row u .head) h (omega arith) (omega arith))
   row-same x y (row {j = i} {k = k} u f g) (row {j = j} {k = l} v p q) =
       let e₁ : i ≡ j = one-end (up-in-row u) (up-in-row v) g q in
       let e₂ : LENGTH d i ≡ LENGTH d j = ap (LENGTH d) e₁ in

@@ -8,24 +8,24 @@ use mathlib.Core.Path.{_≡_, refl, sym, ap, _∙_}
 use mathlib.Core.Logic.{_↔_}
 use Prim.Native.Nat.{ℕ, _+_, _*_, _/_, _≤_, _<_}
 use native.Mathlib.Omega.{arith}
-use mathlib.Core.Bool.{Bool, true, false, _||_}
+use mathlib.Core.Bool.{Bool, true, false, not, _||_}
 use mathlib.Core.List.{List, [], _∷_, _++_, map}
 use mathlib.Core.Option.{Option, none, some}
 use lib.Dec.{ltb}
 use lib.IntN.{ℤ, pos}
 use lib.ListN.{length, drop, getElem?}
-use borrow.Author.Tests.{le-ltb}
+use borrow.Author.Tests.{le-ltb, lt-ltb}
 use Rattle.fdoca.specs.Basics.{if_then_else_, Result, refuse, ok, _>>=_, _>>_, reject, the}
 use Rattle.fdoca.specs.FieldType.{FieldType, fixed, typeOf, bytes, digits, sizeOf, ruleOf}
-use Rattle.fdoca.specs.Triplet.{codeOf, parametersOf}
+use Rattle.fdoca.specs.Triplet.{groupArray, codeOf, parametersOf}
 use Rattle.fdoca.specs.Item.{Field}
 use Rattle.fdoca.specs.Walk.{Note, walk}
-use Rattle.fdoca.specs.Check.{maxDescriptor, Entry, goodLengthSDA, checkSDA, check}
-use Rattle.fdoca.specs.Unfolding.{fieldOf, unfolded}
+use Rattle.fdoca.specs.Check.{maxDescriptor, maxItems, Entry, array, suitsType, goodLength, countAdded, addGroup, goodLengthSDA, checkSDA, check}
+use Rattle.fdoca.specs.Unfolding.{column, fieldOf, unfolded}
 use Rattle.fdoca.specs.Account.{Parts, Block, Packed}
 use Rattle.fdoca.specs.Calls.{maxData, oversize, itemList, list, itemAt, valueOf, wholeOf, wholeNumber, packed, checked, listed, entriesAfter, stateOf, lent, wholeAnswer, decimalAnswer}
 use Rattle.fdoca.specs.Packed.{packedNumber}
-use Rattle.fdoca.specs.Reasons.{byte, OneOf, F, Allowed, Means, OfItems, OfDescriptor, OfList, OfState, OfWholeNumber, OfPacked, fileDescriptor, fileData, OfFile, First, None}
+use Rattle.fdoca.specs.Reasons.{byte, OneOf, F, Suits, Allowed, Means, OfItems, OfDescriptor, OfList, OfState, OfWholeNumber, OfPacked, fileDescriptor, fileData, OfFile, First, None}
 use Rattle.fdoca.specs.Dump.{refusedLine, textOf, secondSize, dump}
 use Rattle.fdoca.specs.Cover.{sum, positions, lengths, InItem, startOf, notesOf, noteOfParts}
 use Rattle.fdoca.proofs.Table.{there, past-end}
@@ -36,7 +36,7 @@ use Rattle.fdoca.proofs.Cover.{walk-covers, in-an-item, in-one-item}
 use Rattle.fdoca.proofs.Blocks.{walk-complete, walk-sound, note-of-part}
 use Rattle.fdoca.proofs.Calls.{items-noted, list-keeps}
 use Rattle.fdoca.proofs.FirstReasons.{refused-first, accepted-none}
-use Rattle.fdoca.proofs.TypeRows.{code-of-type, size-given, size-default, size-else, no-sixteen, sixteen-kept}
+use Rattle.fdoca.proofs.TypeRows.{code-of-type, type-suits, size-given, size-default, size-else, no-sixteen, sixteen-kept}
 use Rattle.fdoca.proofs.CheckRows.{check-told}
 use Rattle.fdoca.proofs.CallRows.{items-told, list-told, state-told, whole-told}
 use Rattle.fdoca.proofs.Fields.{good-at, digits-packed, fields-good, field-allowed, item-good}
@@ -94,7 +94,7 @@ module _ (d s : List ℕ) (k : ℕ) where
 
 -- A refusal's number is never 0: an answer has the number 0 exactly where the call accepts.
 pub check-number-0 : (d : List ℕ) → (checked (check d) .number ≡ 0) ↔ None (OfDescriptor d)
-check-number-0 d = rw (same (check d)) (number-0 (check-told d) (λ t m p r. descriptor-number r .0))
+check-number-0 d = rw (same (check d)) (number-0 (check-told d) (λ t m p r. descriptor-number r))
   where
     same : (x : Result ℕ) → checked x .number ≡ numberOf x
     same (refuse m p) = refl
@@ -249,6 +249,25 @@ module _ (t : List ℕ) where
     -- so a binary float of 16 bytes is.
     pub sixteen-6 : OneOf (codeOf t) (0x47 ∷ 0x48 ∷ 0xC7 ∷ 0xC8 ∷ []) → F byte6 byte7 ≡ 16 → checkSDA es p t ≡ refuse 6 p
     sixteen-6 c e = else-6 (no-sixteen byte6 byte7 e (codeOf t) c) (sixteen-kept byte6 byte7 e (codeOf t))
+
+-- A group of a GDA (Q-4) gives an SDA's field the size of its two bytes, and keeps all else of it;
+module _ (a b : ℕ) (f : Field) where
+  pub length-replaces : 0 < F a b → column a b f ≡ record { id = f .id; code = f .code; type = f .type; mode = f .mode; size = sizeOf (ruleOf (f .type) .sizes) a b }
+  length-replaces h = rw (lt-ltb 0 (F a b) h)
+
+  -- a length of zero keeps the field as it is;
+  pub zero-keeps : F a b ≡ 0 → column a b f ≡ f
+  zero-keeps e = rw e
+
+-- and a length that does not suit the type of an SDA without extents is refused with 21, with no default put in.
+pub misfit-21 : (p n ref a b code : ℕ) → 0 < F a b → (Suits code a b → ⊥)
+    → addGroup groupArray p n (record { ref = ref; byte1 = a; byte2 = b }) (some (array code [])) ≡ refuse 21 p
+unfolding addGroup countAdded goodLength
+misfit-21 p n ref a b code h unsuited = rw (lt-ltb 0 (F a b) h) (go (suitsType (typeOf code) a b) refl)
+  where
+    go : (x : Bool) → suitsType (typeOf code) a b ≡ x → ((reject (not x) 21 p >> ok 1) >>= (λ k. reject (ltb maxItems (n + k)) 10 p >> ok (n + k))) ≡ refuse 21 p
+    go true e = absurd (unsuited (type-suits code a b e))
+    go false e = refl
 
 -- No field of an accepted descriptor has a size that 01's table does not allow for its code, whatever the bias indicator, of which 0 is always allowed.
 pub lengths-allowed : (d : List ℕ) (n : ℕ) → check d ≡ ok n → (before : List Field) (f : Field) (after : List Field) → unfolded d ≡ before ++ (f ∷ after)

@@ -9,21 +9,22 @@ use mathlib.Core.Bool.{Bool, true, false, not, _&&_, true≢false}
 use mathlib.Core.List.{List, [], _∷_, _++_}
 use mathlib.Core.Option.{Option, none, some}
 use lib.Dec.{ltb, eqb}
+use borrow.Author.Tests.{not-false}
 use lib.ListN.{length, drop, replicate, getElem?}
 use Rattle.fdoca.specs.Basics.{if_then_else_, elem, lookup, repeat, product, ok, _>>=_, _>>_, the}
-use Rattle.fdoca.specs.FieldType.{FieldType, fixedBytes, variableBytes, terminatedBytes, shortBytes, integer, reversedInteger, packedDecimal, hexFloat, reversedFloat, binaryFloat, Layout, fixed, counted, terminated, Size, bytes, digits, Sizes, upTo, oneOf, digitsUpTo, sizeOf, allows, typeOf, ruleOf, nullable}
-use Rattle.fdoca.specs.Triplet.{Triplet, torn, triplet, triplets, Construct, SDA, RLO, ISD, CPT, constructOf, idOf, codeOf, parametersOf, extentsOf, Group, groupsOf}
+use Rattle.fdoca.specs.FieldType.{FieldType, fixedBytes, variableBytes, terminatedBytes, shortBytes, integer, reversedInteger, packedDecimal, hexFloat, reversedFloat, binaryFloat, Layout, fixed, counted, terminated, Size, bytes, digits, Sizes, upTo, oneOf, digitsUpTo, sizeOf, allows, replaces, typeOf, ruleOf, nullable}
+use Rattle.fdoca.specs.Triplet.{Triplet, torn, triplet, triplets, Construct, SDA, RLO, GDA, ISD, CPT, Kind, rowLayout, groupArray, constructOf, idOf, codeOf, parametersOf, extentsOf, Group, taken, factor, groupsOf}
 use Rattle.fdoca.specs.Item.{Field, fieldLength, Measured, refused, item, indicated, measureFixed, measureValue, measureNullable, measureItem, measure}
 use Rattle.fdoca.specs.Walk.{Note, itemLength, noteOf, with, cutFrom, walk}
 use Rattle.fdoca.specs.Calls.{oversize, itemAt}
 use Rattle.fdoca.specs.Check as C
-use Rattle.fdoca.specs.Unfolding.{Described, array, row, fieldsOf, fieldsTaken, fieldsReferred, groupFields, addFields, fieldOf, Layouts, closeRow, closed, unfoldSDA, unfoldRLO, unfoldCPT, unfoldConstruct, unfoldTriplet, unfoldTriplets, start, lastFields, unfolded}
+use Rattle.fdoca.specs.Unfolding.{Described, array, row, fieldsOf, fieldsTaken, column, columnReferred, fieldsAdded, groupFields, addFields, fieldOf, Layouts, closeRow, closed, unfoldSDA, unfoldRow, unfoldCPT, unfoldConstruct, unfoldTriplet, unfoldTriplets, start, lastFields, unfolded}
 use Rattle.fdoca.proofs.Results.{IfOk, none-owed, holds, bind-all, reject-all, ok-of, both-all, always}
 use Rattle.fdoca.proofs.Tests.{by-test, by-le, and-left, and-right}
 use Rattle.fdoca.specs.Reasons.{Allowed}
-use Rattle.fdoca.specs.Between.{entries, state}
+use Rattle.fdoca.specs.Between.{entry, entries, rowCounted, state}
 use Rattle.fdoca.proofs.TypeRows.{good-parts, rule-allows}
-use Rattle.fdoca.proofs.Count.{closed-state, check-triplet}
+use Rattle.fdoca.proofs.Count.{entry?, lookup-entries, closed-state, check-triplet}
 
 pub record GoodField (f : Field) : Type 0 where
   pub typed : typeOf (f .code) ≡ some (f .type)
@@ -99,7 +100,7 @@ data GoodIds : List (ℕ × Described) → Type 0 where
   none-yet : GoodIds []
   one-more : {c : ℕ × Described} {ds : List (ℕ × Described)} → Good (c .1) → GoodIds ds → GoodIds (c ∷ ds)
 
-abbrev GoodRow : Option (ℕ × List Field) → Type 0
+abbrev GoodRow : Option (ℕ × List Field × Kind) → Type 0
 GoodRow none = Unit {0}
 GoodRow (some r) = AllGood (r .1)
 
@@ -110,29 +111,58 @@ record GoodLayouts (u : Layouts) : Type 0 where
 good-closed : (u : Layouts) → GoodLayouts u → GoodIds (closed u)
 good-closed u g = go (u .current) (g .at-hand)
   where
-    go : (o : Option (ℕ × List Field)) → GoodRow o → GoodIds (closeRow (u .described) o)
+    go : (o : Option (ℕ × List Field × Kind)) → GoodRow o → GoodIds (closeRow (u .described) o)
     go none k = g .ids
     go (some r) k = one-more k (g .ids)
 
-good-referred : (k i : ℕ) (ds : List (ℕ × Described)) → GoodIds ds → AllGood (fieldsReferred k (lookup i ds))
-good-referred k i [] none-yet = nil
-good-referred k i (c ∷ ds) (one-more g gs) = go (eqb i (c .0)) (good-referred k i ds gs)
+abbrev GoodFound : Option Described → Type 0
+GoodFound none = Unit {0}
+GoodFound (some D) = Good D
+
+good-found : (i : ℕ) (ds : List (ℕ × Described)) → GoodIds ds → GoodFound (lookup i ds)
+good-found i [] none-yet = tt
+good-found i (c ∷ ds) (one-more g gs) = go (eqb i (c .0)) (good-found i ds gs)
   where
-    go : (b : Bool) → AllGood (fieldsReferred k (lookup i ds)) → AllGood (fieldsReferred k (if b then some (c .1) else lookup i ds))
-    go true r = good-taken k (c .1) g
+    go : (b : Bool) → GoodFound (lookup i ds) → GoodFound (if b then some (c .1) else lookup i ds)
+    go true r = g
     go false r = r
 
-good-add : (ds : List (ℕ × Described)) (l : List Field) (gs : List Group) → GoodIds ds → AllGood l → AllGood (addFields ds l gs)
-unfolding addFields
-good-add ds l [] g a = a
-good-add ds l (x ∷ gs) g a =
-    good-add ds (l ++ groupFields ds x) gs g (good-append a (good-repeat (x .factor) _ (good-referred (x .taken) (x .ref) ds g)))
+-- A good field with a replaced length that is good for its type is good.
+pub good-replaced : (f : Field) (a b : ℕ) → GoodField f → C.goodLength (f .code) a b ≡ true → GoodField (column a b f)
+unfolding C.goodLength
+good-replaced f a b g h = record { typed = g .typed; allowed = go (replaces a b) h; mode-allowed = g .mode-allowed }
+  where
+    go : (x : Bool) → (if x then C.suitsType (typeOf (f .code)) a b else true) ≡ true
+        → allows (ruleOf (f .type) .sizes) (if x then sizeOf (ruleOf (f .type) .sizes) a b else f .size) ≡ true
+    go true k = sym (ap (λ o. C.suitsType o a b) (g .typed)) ∙ k
+    go false k = g .allowed
+
+-- what a group that is not refused adds
+good-column : (x : Group) (D : Described) → Good D → not (C.fits x (entry D)) ≡ false → AllGood (columnReferred x (some D))
+good-column x (array f []) g h = cons (good-replaced f (x .byte1) (x .byte2) g (not-false (C.goodLength (f .code) (x .byte1) (x .byte2)) h)) nil
+good-column x (array f (y ∷ ys)) g h = nil
+good-column x (row l) g h = nil
+
+good-added : (kind : Kind) (p : ℕ) (x : Group) (D : Described) → Good D → IfOk (λ k. AllGood (fieldsAdded kind x (some D))) (C.countAdded kind p x (entry D))
+unfolding C.countAdded
+good-added rowLayout p x D g = always _ (good-repeat (factor x) _ (good-taken (taken x) D g))
+good-added groupArray p x D g = reject-all (not (C.fits x (entry D))) 21 p (λ h. holds (good-column x D g h))
+
+good-group : (kind : Kind) (p n : ℕ) (x : Group) (o : Option Described) → GoodFound o → IfOk (λ m. AllGood (fieldsAdded kind x o)) (C.addGroup kind p n x (entry? o))
+unfolding C.addGroup
+good-group kind p n x none g = none-owed
+good-group kind p n x (some D) g = bind-all (C.countAdded kind p x (entry D)) (good-added kind p x D g) (λ k a. always _ a)
+
+good-add : (kind : Kind) (p n : ℕ) (ds : List (ℕ × Described)) (l : List Field) (gs : List Group) → GoodIds ds → AllGood l
+    → IfOk (λ m. AllGood (addFields kind ds l gs)) (C.addGroups kind p (entries ds) n gs)
+unfolding C.addGroups addFields
+good-add kind p n ds l [] g a = holds a
+good-add kind p n ds l (x ∷ gs) g a =
+    rw (lookup-entries (x .ref) ds)
+    (bind-all (C.addGroup kind p n x (entry? (lookup (x .ref) ds))) (good-group kind p n x (lookup (x .ref) ds) (good-found (x .ref) ds g))
+    (λ m b. good-add kind p m ds (l ++ groupFields kind ds x) gs g (good-append a b)))
 
 -- the parts of a good SDA
-not-false-is : (b : Bool) → not b ≡ false → b ≡ true
-not-false-is true h = refl
-not-false-is false h = absurd (true≢false h)
-
 pub good-SDA : (t : List ℕ) (T : FieldType) → typeOf (codeOf t) ≡ some T → C.goodSDA t ≡ true → GoodField (fieldOf T t)
 good-SDA t T e h =
     let a : (not (eqb (idOf t) 0) && C.goodType (typeOf (codeOf t)) (parametersOf t)) ≡ true = and-left _ (not (elem 0 (extentsOf t))) h in
@@ -147,27 +177,44 @@ good-unfold-SDA u p t none e g = always (C.checkSDA (entries (closed u)) p t) g
 good-unfold-SDA u p t (some T) e g =
     reject-all (not (C.goodLengthSDA t)) 5 p
     (λ h. reject-all (not (C.goodSDA t)) 6 p
-    (λ h₁. let f : GoodField (fieldOf T t) = good-SDA t T e (not-false-is (C.goodSDA t) h₁) in
+    (λ h₁. let f : GoodField (fieldOf T t) = good-SDA t T e (not-false (C.goodSDA t) h₁) in
     let k : GoodLayouts (record { described = (idOf t, array (fieldOf T t) (extentsOf t)) ∷ closed u; current = none }) =
     record { ids = one-more f (good-closed u g); at-hand = tt } in
     always _ k))
 
-good-unfold-CPT : (u : Layouts) (t : List ℕ) (o : Option (ℕ × List Field)) → GoodRow o → GoodLayouts u → GoodLayouts (unfoldCPT o u t)
-unfolding unfoldCPT
-good-unfold-CPT u t none k g = g
-good-unfold-CPT u t (some r) k g = record { ids = g .ids; at-hand = good-add (u .described) (r .1) (groupsOf t) (g .ids) k }
+good-unfold-row : (kind : Kind) (u : Layouts) (p : ℕ) (t : List ℕ) → GoodLayouts u
+    → IfOk (λ st. GoodLayouts (unfoldRow kind u t)) (C.checkRow kind (entries (closed u)) p t)
+unfolding C.checkRow unfoldRow
+good-unfold-row kind u p t g =
+    reject-all (not (C.goodLengthRow t)) 5 p
+    (λ h. reject-all (eqb (idOf t) 0) 6 p
+    (λ h₁. reject-all (C.isDescribed (idOf t) (entries (closed u))) 7 p
+    (λ h₂. bind-all (C.addGroups kind p (entries (closed u)) 0 (groupsOf t)) (good-add kind p 0 (closed u) [] (groupsOf t) (good-closed u g) nil)
+    (λ n a. let k : GoodLayouts (record { described = closed u; current = some (idOf t, addFields kind (closed u) [] (groupsOf t), kind) }) =
+    record { ids = good-closed u g; at-hand = a } in
+    holds k))))
+
+good-unfold-CPT : (u : Layouts) (p : ℕ) (t : List ℕ) (o : Option (ℕ × List Field × Kind)) → GoodRow o → GoodLayouts u
+    → IfOk (λ st. GoodLayouts (unfoldCPT o u t)) (C.checkCPT (record { described = entries (u .described); current = rowCounted o }) p t)
+unfolding C.checkCPT unfoldCPT
+good-unfold-CPT u p t none k g = none-owed
+good-unfold-CPT u p t (some r) k g =
+    reject-all (not (C.goodLengthRow t)) 5 p
+    (λ h. reject-all (not (eqb (idOf t) 0)) 6 p
+    (λ h₁. bind-all (C.addGroups (r .2) p (entries (u .described)) (length (r .1)) (groupsOf t)) (good-add (r .2) p (length (r .1)) (u .described) (r .1) (groupsOf t) (g .ids) k)
+    (λ n a. let q : GoodLayouts (record { described = u .described; current = some (r .0, addFields (r .2) (u .described) (r .1) (groupsOf t), r .2) }) =
+    record { ids = g .ids; at-hand = a } in
+    holds q)))
 
 good-construct : (c : Option Construct) (u : Layouts) (p : ℕ) (t : List ℕ) → GoodLayouts u
     → IfOk (λ st. GoodLayouts (unfoldConstruct c u t)) (C.checkConstruct c (state u) p t)
-unfolding C.checkConstruct unfoldConstruct unfoldRLO
+unfolding C.checkConstruct unfoldConstruct
 good-construct none u p t g = none-owed
 good-construct (some SDA) u p t g = rw (closed-state u) (good-unfold-SDA u p t (typeOf (codeOf t)) refl g)
-good-construct (some RLO) u p t g =
-    let k : GoodLayouts (record { described = closed u; current = some (idOf t, addFields (closed u) [] (groupsOf t)) }) =
-    record { ids = good-closed u g; at-hand = good-add (closed u) [] (groupsOf t) (good-closed u g) nil } in
-    always _ k
+good-construct (some RLO) u p t g = rw (closed-state u) (good-unfold-row rowLayout u p t g)
+good-construct (some GDA) u p t g = rw (closed-state u) (good-unfold-row groupArray u p t g)
 good-construct (some ISD) u p t g = always _ g
-good-construct (some CPT) u p t g = always _ (good-unfold-CPT u t (u .current) (g .at-hand) g)
+good-construct (some CPT) u p t g = good-unfold-CPT u p t (u .current) (g .at-hand) g
 
 good-triplet : (u : Layouts) (t : Triplet) → GoodLayouts u → IfOk (λ st. GoodLayouts (unfoldTriplet u t)) (C.checkTriplet (state u) t)
 unfolding C.checkTriplet unfoldTriplet

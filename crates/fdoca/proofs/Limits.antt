@@ -1,7 +1,7 @@
 -- An accepted descriptor describes at most 4,096 items.
 -- Assumes nothing.
-use mathlib.Core.Path.{_≡_, refl}
-use Prim.Native.Nat.{ℕ, _+_, _*_, _≤_}
+use mathlib.Core.Path.{_≡_}
+use Prim.Native.Nat.{ℕ, _+_, _≤_}
 use native.Mathlib.Omega.{arith}
 use mathlib.Core.Bool.{not}
 use mathlib.Core.List.{List, [], _∷_}
@@ -10,15 +10,15 @@ use lib.Dec.{ltb, eqb}
 use lib.ListN.{length}
 use borrow.Author.Tests.{ltb-false}
 use Rattle.fdoca.specs.Basics.{product, lookup, ok, _>>=_, _>>_}
-use Rattle.fdoca.specs.Triplet.{Triplet, torn, triplet, triplets, Construct, SDA, RLO, ISD, CPT, constructOf, idOf, extentsOf, Group, groupsOf}
-use Rattle.fdoca.specs.Check.{Entry, array, State, closeRow, closed, countOf, countTaken, isDescribed, maxItems, maxDescriptor, addGroup, addGroups, goodLengthSDA, goodSDA, goodLengthRow, goodLengthISD, goodISD, checkSDA, checkRLO, checkCPT, checkISD, checkConstruct, checkTriplet, checkTriplets, begin, lastCount, check}
-use Rattle.fdoca.proofs.Results.{IfOk, none-owed, holds, bind-all, the-all, reject-all, ok-of}
+use Rattle.fdoca.specs.Triplet.{Triplet, torn, triplet, triplets, Construct, SDA, RLO, GDA, ISD, CPT, Kind, rowLayout, groupArray, constructOf, idOf, codeOf, extentsOf, Group, groupsOf}
+use Rattle.fdoca.specs.Check.{Entry, array, State, closeRow, closed, countOf, isDescribed, maxItems, maxDescriptor, countAdded, addGroup, addGroups, goodLengthSDA, goodSDA, goodLengthRow, goodLengthISD, goodISD, checkSDA, checkRow, checkCPT, checkISD, checkConstruct, checkTriplet, checkTriplets, begin, lastCount, check}
+use Rattle.fdoca.proofs.Results.{IfOk, none-owed, holds, bind-all, reject-all, always, ok-of}
 
 abbrev Bounded : List (ℕ × Entry) → Type 0
 Bounded [] = Unit {0}
 Bounded (e ∷ es) = (countOf (e .1) ≤ maxItems) × Bounded es
 
-abbrev BoundedRow : Option (ℕ × ℕ) → Type 0
+abbrev BoundedRow : Option (ℕ × ℕ × Kind) → Type 0
 BoundedRow none = Unit {0}
 BoundedRow (some r) = r .1 ≤ maxItems
 
@@ -29,24 +29,23 @@ record Limited (st : State) : Type 0 where
 limited-closed : (st : State) → Limited st → Bounded (closed st)
 limited-closed st h = go (st .current) (h .open-row)
   where
-    go : (o : Option (ℕ × ℕ)) → BoundedRow o → Bounded (closeRow (st .described) o)
+    go : (o : Option (ℕ × ℕ × Kind)) → BoundedRow o → Bounded (closeRow (st .described) o)
     go none k = h .entries
     go (some r) k = (k, h .entries)
 
-limited-group : (p n : ℕ) (g : Group) (r : Option Entry) → IfOk (λ m. m ≤ maxItems) (addGroup p n g r)
+limited-group : (kind : Kind) (p n : ℕ) (g : Group) (r : Option Entry) → IfOk (λ m. m ≤ maxItems) (addGroup kind p n g r)
 unfolding addGroup
-limited-group p n g none = none-owed
-limited-group p n g (some e) =
-    reject-all (eqb (g .factor) 0) 9 p
-    (λ h. the-all (countTaken (g .taken) e) 9 p
-    (λ k q. reject-all (ltb maxItems (n + g .factor * k)) 10 p
-    (λ t. let r : n + g .factor * k ≤ maxItems = ltb-false maxItems (n + g .factor * k) t in holds r)))
+limited-group kind p n g none = none-owed
+limited-group kind p n g (some e) =
+    bind-all (countAdded kind p g e) (always (countAdded kind p g e) (tt {0}))
+    (λ k u. reject-all (ltb maxItems (n + k)) 10 p
+    (λ t. let r : n + k ≤ maxItems = ltb-false maxItems (n + k) t in holds r))
 
-limited-groups : (p : ℕ) (es : List (ℕ × Entry)) (n : ℕ) (gs : List Group) → n ≤ maxItems → IfOk (λ m. m ≤ maxItems) (addGroups p es n gs)
+limited-groups : (kind : Kind) (p : ℕ) (es : List (ℕ × Entry)) (n : ℕ) (gs : List Group) → n ≤ maxItems → IfOk (λ m. m ≤ maxItems) (addGroups kind p es n gs)
 unfolding addGroups
-limited-groups p es n [] h = holds h
-limited-groups p es n (g ∷ gs) h =
-    bind-all (addGroup p n g (lookup (g .ref) es)) (limited-group p n g (lookup (g .ref) es)) (λ m k. limited-groups p es m gs k)
+limited-groups kind p es n [] h = holds h
+limited-groups kind p es n (g ∷ gs) h =
+    bind-all (addGroup kind p n g (lookup (g .ref) es)) (limited-group kind p n g (lookup (g .ref) es)) (λ m k. limited-groups kind p es m gs k)
 
 limited-SDA : (es : List (ℕ × Entry)) (p : ℕ) (t : List ℕ) → Bounded es → IfOk Limited (checkSDA es p t)
 unfolding checkSDA
@@ -55,30 +54,30 @@ limited-SDA es p t b =
     (λ h. reject-all (not (goodSDA t)) 6 p
     (λ h₁. reject-all (isDescribed (idOf t) es) 7 p
     (λ h₂. reject-all (ltb maxItems (product (extentsOf t))) 10 p
-    (λ h₃. let r : Limited (record { described = (idOf t, array (extentsOf t)) ∷ es; current = none }) =
+    (λ h₃. let r : Limited (record { described = (idOf t, array (codeOf t) (extentsOf t)) ∷ es; current = none }) =
     record { entries = (ltb-false maxItems (product (extentsOf t)) h₃, b); open-row = tt } in
     holds r))))
 
-limited-RLO : (es : List (ℕ × Entry)) (p : ℕ) (t : List ℕ) → Bounded es → IfOk Limited (checkRLO es p t)
-unfolding checkRLO
-limited-RLO es p t b =
+limited-row : (kind : Kind) (es : List (ℕ × Entry)) (p : ℕ) (t : List ℕ) → Bounded es → IfOk Limited (checkRow kind es p t)
+unfolding checkRow
+limited-row kind es p t b =
     reject-all (not (goodLengthRow t)) 5 p
     (λ h. reject-all (eqb (idOf t) 0) 6 p
     (λ h₁. reject-all (isDescribed (idOf t) es) 7 p
-    (λ h₂. bind-all (addGroups p es 0 (groupsOf t)) (limited-groups p es 0 (groupsOf t) (omega arith))
-    (λ n k. let r : Limited (record { described = es; current = some (idOf t, n) }) = record { entries = b; open-row = k } in holds r))))
+    (λ h₂. bind-all (addGroups kind p es 0 (groupsOf t)) (limited-groups kind p es 0 (groupsOf t) (omega arith))
+    (λ n k. let r : Limited (record { described = es; current = some (idOf t, n, kind) }) = record { entries = b; open-row = k } in holds r))))
 
 limited-CPT : (st : State) (p : ℕ) (t : List ℕ) → Limited st → IfOk Limited (checkCPT st p t)
 unfolding checkCPT
 limited-CPT st p t b = go (st .current) (b .open-row)
   where
-    go : (o : Option (ℕ × ℕ)) → BoundedRow o → IfOk Limited (checkCPT (record { described = st .described; current = o }) p t)
+    go : (o : Option (ℕ × ℕ × Kind)) → BoundedRow o → IfOk Limited (checkCPT (record { described = st .described; current = o }) p t)
     go none k = none-owed
     go (some r) k =
         reject-all (not (goodLengthRow t)) 5 p
         (λ h. reject-all (not (eqb (idOf t) 0)) 6 p
-        (λ h₁. bind-all (addGroups p (st .described) (r .1) (groupsOf t)) (limited-groups p (st .described) (r .1) (groupsOf t) k)
-        (λ n q. let z : Limited (record { described = st .described; current = some (r .0, n) }) = record { entries = b .entries; open-row = q } in holds z)))
+        (λ h₁. bind-all (addGroups (r .2) p (st .described) (r .1) (groupsOf t)) (limited-groups (r .2) p (st .described) (r .1) (groupsOf t) k)
+        (λ n q. let z : Limited (record { described = st .described; current = some (r .0, n, r .2) }) = record { entries = b .entries; open-row = q } in holds z)))
 
 limited-ISD : (st : State) (p : ℕ) (t : List ℕ) → Limited st → IfOk Limited (checkISD st p t)
 unfolding checkISD
@@ -89,7 +88,8 @@ limited-construct : (c : Option Construct) (st : State) (p : ℕ) (t : List ℕ)
 unfolding checkConstruct
 limited-construct none st p t b = none-owed
 limited-construct (some SDA) st p t b = limited-SDA (closed st) p t (limited-closed st b)
-limited-construct (some RLO) st p t b = limited-RLO (closed st) p t (limited-closed st b)
+limited-construct (some RLO) st p t b = limited-row rowLayout (closed st) p t (limited-closed st b)
+limited-construct (some GDA) st p t b = limited-row groupArray (closed st) p t (limited-closed st b)
 limited-construct (some ISD) st p t b = limited-ISD st p t b
 limited-construct (some CPT) st p t b = limited-CPT st p t b
 

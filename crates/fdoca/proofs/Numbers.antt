@@ -9,13 +9,13 @@ use Rattle.fdoca.specs.Basics.{Result, refuse, ok}
 use Rattle.fdoca.specs.Item.{Field}
 use Rattle.fdoca.specs.Calls.{itemAt}
 use Rattle.fdoca.specs.Reasons.{OfItem, short-data, bad-count, no-end, OfItems, item, surplus, OfDescriptor, triplet, nothing-described, OfBlock, descriptor, items, OfList, small-list, OfState, no-such-item, OfWholeNumber, state, wrong-kind, OfPacked, bad-digit, None}
-use Rattle.fdoca.proofs.TripletRows.{number-range}
+use Rattle.fdoca.proofs.TripletRows.{step-range}
 use Rattle.fdoca.proofs.FirstReasons.{Told, refused, accepted, refused-first}
 use Rattle.fdoca.proofs.CallRows.{state-told}
 
-pub descriptor-number : {d t : List ℕ} {m p : ℕ} → OfDescriptor d t m p → (1 ≤ m) × (m ≤ 11)
+pub descriptor-number : {d t : List ℕ} {m p : ℕ} → OfDescriptor d t m p → 1 ≤ m
 descriptor-number (OfDescriptor.oversize h) = omega arith
-descriptor-number (triplet h r) = omega (arith, number-range r)
+descriptor-number (triplet h r) = omega (arith, step-range r)
 descriptor-number (nothing-described h) = omega arith
 
 item-of-number : {f : Field} {s : List ℕ} {step m : ℕ} → OfItem f s step m → 1 ≤ m
@@ -28,7 +28,7 @@ items-number (item x r) = item-of-number r
 items-number (surplus r b e l) = omega arith
 
 block-number : {d s t : List ℕ} {m p : ℕ} → OfBlock d s t m p → 1 ≤ m
-block-number (descriptor r) = descriptor-number r .0
+block-number (descriptor r) = descriptor-number r
 block-number (OfBlock.oversize h) = omega arith
 block-number (items r) = items-number r
 

@@ -3,41 +3,51 @@
 use mathlib.Core.Path.{_≡_, refl, ap}
 use Prim.Native.Nat.{ℕ, zero, suc, _+_, _*_}
 use native.Mathlib.Omega.{arith}
-use mathlib.Core.Bool.{not}
+use mathlib.Core.Bool.{false, not, true≢false}
 use mathlib.Core.List.{List, [], _∷_, _++_}
 use mathlib.Core.Option.{Option, none, some}
 use lib.Dec.{ltb, eqb}
 use lib.ListN.{length, replicate}
 use Rattle.fdoca.specs.Basics.{lookup, repeat, product, ok}
 use Rattle.fdoca.specs.FieldType.{FieldType, typeOf}
-use Rattle.fdoca.specs.Triplet.{Triplet, torn, triplet, triplets, Construct, SDA, RLO, ISD, CPT, constructOf, idOf, codeOf, extentsOf, Group, groupsOf}
+use Rattle.fdoca.specs.Triplet.{Triplet, torn, triplet, triplets, Construct, SDA, RLO, GDA, ISD, CPT, Kind, rowLayout, groupArray, constructOf, idOf, codeOf, extentsOf, Group, taken, factor, groupsOf}
 use Rattle.fdoca.specs.Item.{Field}
 use Rattle.fdoca.specs.Check as C
-use Rattle.fdoca.specs.Unfolding.{Described, array, row, fieldsOf, fieldsTaken, Layouts, closed, groupFields, addFields, fieldOf, unfoldSDA, unfoldRLO, unfoldCPT, unfoldConstruct, unfoldTriplet, unfoldTriplets, start, lastFields, unfolded}
+use Rattle.fdoca.specs.Unfolding.{Described, array, row, fieldsOf, fieldsTaken, column, fieldsAdded, Layouts, closed, groupFields, addFields, fieldOf, unfoldSDA, unfoldRow, unfoldCPT, unfoldConstruct, unfoldTriplet, unfoldTriplets, start, lastFields, unfolded}
 use Rattle.fdoca.specs.Between.{entry, entries, rowCounted, state}
 use Rattle.fdoca.proofs.Results.{IfOk, none-owed, holds, bind-all, the-all, reject-all, for-all, both-all, always, ok-of}
 use Rattle.fdoca.proofs.Count.{entry?, lookup-entries, closed-state, no-type-refused, check-triplet, check-triplets}
 
--- a group's list, once
+-- the list of an RLO's group, once
 pub data Takes : ℕ → Described → List Field → Type 0 where
   all : {D : Described} → Takes 0 D (fieldsOf D)
   some-of : {k x : ℕ} {f : Field} {xs : List ℕ} → Takes (suc k) (array f (x ∷ xs)) (replicate (suc k * product xs) f)
 
+-- a group's list
+pub data Lists : Kind → Group → Described → List Field → Type 0 where
+  of-row : {g : Group} {D : Described} {m : List Field} → Takes (taken g) D m → Lists rowLayout g D (repeat (factor g) m)
+  of-column : {g : Group} {f : Field} → Lists groupArray g (array f []) (column (g .byte1) (g .byte2) f ∷ [])
+
 -- a list, with those of groups added to it
-pub data Adds (ds : List (ℕ × Described)) : List Field → List Group → List Field → Type 0 where
-  no-more : {l : List Field} → Adds ds l [] l
-  one-more : {l m o : List Field} {g : Group} {gs : List Group} {D : Described} → lookup (g .ref) ds ≡ some D → Takes (g .taken) D m
-      → Adds ds (l ++ repeat (g .factor) m) gs o → Adds ds l (g ∷ gs) o
+pub data Adds (kind : Kind) (ds : List (ℕ × Described)) : List Field → List Group → List Field → Type 0 where
+  no-more : {l : List Field} → Adds kind ds l [] l
+  one-more : {l m o : List Field} {g : Group} {gs : List Group} {D : Described} → lookup (g .ref) ds ≡ some D → Lists kind g D m → Adds kind ds (l ++ m) gs o
+      → Adds kind ds l (g ∷ gs) o
+
+-- the construct of a kind
+abbrev pub constructOfKind : Kind → Construct
+constructOfKind rowLayout = RLO
+constructOfKind groupArray = GDA
 
 -- a triplet, after what the triplets before it unfold to
 pub data Unfolds (u : Layouts) (t : List ℕ) : Layouts → Type 0 where
   of-SDA : {T : FieldType} → constructOf t ≡ some SDA → typeOf (codeOf t) ≡ some T
       → Unfolds u t (record { described = (idOf t, array (fieldOf T t) (extentsOf t)) ∷ closed u; current = none })
-  of-RLO : {l : List Field} → constructOf t ≡ some RLO → Adds (closed u) [] (groupsOf t) l
-      → Unfolds u t (record { described = closed u; current = some (idOf t, l) })
+  of-row : {kind : Kind} {l : List Field} → constructOf t ≡ some (constructOfKind kind) → Adds kind (closed u) [] (groupsOf t) l
+      → Unfolds u t (record { described = closed u; current = some (idOf t, l, kind) })
   of-ISD : constructOf t ≡ some ISD → Unfolds u t u
-  of-CPT : {r : ℕ × List Field} {l : List Field} → constructOf t ≡ some CPT → u .current ≡ some r → Adds (u .described) (r .1) (groupsOf t) l
-      → Unfolds u t (record { described = u .described; current = some (r .0, l) })
+  of-CPT : {r : ℕ × List Field × Kind} {l : List Field} → constructOf t ≡ some CPT → u .current ≡ some r → Adds (r .2) (u .described) (r .1) (groupsOf t) l
+      → Unfolds u t (record { described = u .described; current = some (r .0, l, r .2) })
 
 pub data AllUnfold : Layouts → List Triplet → Layouts → Type 0 where
   end : {u : Layouts} → AllUnfold u [] u
@@ -59,32 +69,46 @@ taken-as (suc k) (array f []) m e = absurd (let z : _≡_ {A = ℕ} 0 1 = cc in 
 taken-as (suc k) (array f (x ∷ xs)) m e = some-of
 taken-as (suc k) (row l) m e = absurd (let z : _≡_ {A = ℕ} 0 1 = cc in let w : ⊥ = omega arith in w)
 
--- what a group refers to, and that it can take elements of it
-record Referred (ds : List (ℕ × Described)) (g : Group) : Type 0 where
+column-as : (g : Group) (D : Described) → not (C.fits g (entry D)) ≡ false → Lists groupArray g D (fieldsAdded groupArray g (some D))
+column-as g (array f []) h = of-column
+column-as g (array f (x ∷ xs)) h = absurd (true≢false h)
+column-as g (row l) h = absurd (true≢false h)
+
+list-as : (kind : Kind) (p : ℕ) (g : Group) (D : Described) → IfOk (λ m. Lists kind g D (fieldsAdded kind g (some D))) (C.countAdded kind p g (entry D))
+unfolding C.countAdded
+list-as rowLayout p g D =
+    reject-all (eqb (factor g) 0) 9 p
+    (λ h. the-all (C.countTaken (taken g) (entry D)) 9 p
+    (λ k t. holds (of-row (taken-as (taken g) D k t))))
+list-as groupArray p g D = reject-all (not (C.fits g (entry D))) 21 p (λ h. holds (column-as g D h))
+
+-- what a group refers to, and that it makes a list of it
+record Referred (kind : Kind) (ds : List (ℕ × Described)) (g : Group) : Type 0 where
   to : Described
   known : lookup (g .ref) ds ≡ some to
-  takes : Takes (g .taken) to (fieldsTaken (g .taken) to)
+  lists : Lists kind g to (fieldsAdded kind g (some to))
 
-group-as : (p n : ℕ) (g : Group) (ds : List (ℕ × Described)) (o : Option Described) → lookup (g .ref) ds ≡ o
-    → IfOk (λ m. Referred ds g) (C.addGroup p n g (entry? o))
+group-as : (kind : Kind) (p n : ℕ) (g : Group) (ds : List (ℕ × Described)) (o : Option Described) → lookup (g .ref) ds ≡ o
+    → IfOk (λ m. Referred kind ds g) (C.addGroup kind p n g (entry? o))
 unfolding C.addGroup
-group-as p n g ds none e = none-owed
-group-as p n g ds (some D) e =
-    reject-all (eqb (g .factor) 0) 9 p
-    (λ h. the-all (C.countTaken (g .taken) (entry D)) 9 p
-    (λ k t. reject-all (ltb C.maxItems (n + g .factor * k)) 10 p
-    (λ h′. holds (record { to = D; known = e; takes = taken-as (g .taken) D k t }))))
+group-as kind p n g ds none e = none-owed
+group-as kind p n g ds (some D) e =
+    bind-all (C.countAdded kind p g (entry D)) (list-as kind p g D)
+    (λ k t. reject-all (ltb C.maxItems (n + k)) 10 p
+    (λ h. holds (record { to = D; known = e; lists = t })))
 
-groups-as : (p n : ℕ) (ds : List (ℕ × Described)) (l : List Field) (gs : List Group) → IfOk (λ m. Adds ds l gs (addFields ds l gs)) (C.addGroups p (entries ds) n gs)
+groups-as : (kind : Kind) (p n : ℕ) (ds : List (ℕ × Described)) (l : List Field) (gs : List Group)
+    → IfOk (λ m. Adds kind ds l gs (addFields kind ds l gs)) (C.addGroups kind p (entries ds) n gs)
 unfolding C.addGroups addFields
-groups-as p n ds l [] = holds no-more
-groups-as p n ds l (g ∷ gs) =
+groups-as kind p n ds l [] = holds no-more
+groups-as kind p n ds l (g ∷ gs) =
     rw (lookup-entries (g .ref) ds)
-    (bind-all (C.addGroup p n g (entry? (lookup (g .ref) ds))) (group-as p n g ds (lookup (g .ref) ds) refl)
-    (λ m r. for-all (λ x h. added r h) (groups-as p m ds (l ++ groupFields ds g) gs)))
+    (bind-all (C.addGroup kind p n g (entry? (lookup (g .ref) ds))) (group-as kind p n g ds (lookup (g .ref) ds) refl)
+    (λ m r. for-all (λ x h. added r h) (groups-as kind p m ds (l ++ groupFields kind ds g) gs)))
   where
-    added : (r : Referred ds g) → Adds ds (l ++ groupFields ds g) gs (addFields ds (l ++ groupFields ds g) gs) → Adds ds l (g ∷ gs) (addFields ds (l ++ groupFields ds g) gs)
-    added r h = rw (r .known) (one-more (r .known) (r .takes) (rw (r .known) at h))
+    added : (r : Referred kind ds g) → Adds kind ds (l ++ groupFields kind ds g) gs (addFields kind ds (l ++ groupFields kind ds g) gs)
+        → Adds kind ds l (g ∷ gs) (addFields kind ds (l ++ groupFields kind ds g) gs)
+    added r h = rw (r .known) (one-more (r .known) (r .lists) (rw (r .known) at h))
 
 SDA-as : (u : Layouts) (p : ℕ) (t : List ℕ) (o : Option FieldType) → constructOf t ≡ some SDA → typeOf (codeOf t) ≡ o
     → IfOk (λ st. Unfolds u t (unfoldSDA o u t)) (C.checkSDA (entries (closed u)) p t)
@@ -95,27 +119,32 @@ SDA-as u p t none c e =
     (λ h₁. absurd (no-type-refused t e h₁)))
 SDA-as u p t (some T) c e = always _ (of-SDA c e)
 
-CPT-as : (u : Layouts) (p : ℕ) (t : List ℕ) (o : Option (ℕ × List Field)) → constructOf t ≡ some CPT → u .current ≡ o
+CPT-as : (u : Layouts) (p : ℕ) (t : List ℕ) (o : Option (ℕ × List Field × Kind)) → constructOf t ≡ some CPT → u .current ≡ o
     → IfOk (λ st. Unfolds u t (unfoldCPT o u t)) (C.checkCPT (record { described = entries (u .described); current = rowCounted o }) p t)
 unfolding C.checkCPT unfoldCPT
 CPT-as u p t none c e = none-owed
 CPT-as u p t (some r) c e =
     reject-all (not (C.goodLengthRow t)) 5 p
     (λ h. reject-all (not (eqb (idOf t) 0)) 6 p
-    (λ h₁. bind-all (C.addGroups p (entries (u .described)) (length (r .1)) (groupsOf t)) (groups-as p (length (r .1)) (u .described) (r .1) (groupsOf t))
+    (λ h₁. bind-all (C.addGroups (r .2) p (entries (u .described)) (length (r .1)) (groupsOf t)) (groups-as (r .2) p (length (r .1)) (u .described) (r .1) (groupsOf t))
     (λ n a. holds (of-CPT c e a))))
+
+row-as : (kind : Kind) (u : Layouts) (p : ℕ) (t : List ℕ) → constructOf t ≡ some (constructOfKind kind)
+    → IfOk (λ st. Unfolds u t (unfoldRow kind u t)) (C.checkRow kind (entries (closed u)) p t)
+unfolding C.checkRow unfoldRow
+row-as kind u p t c =
+    reject-all (not (C.goodLengthRow t)) 5 p
+    (λ h. reject-all (eqb (idOf t) 0) 6 p
+    (λ h₁. reject-all (C.isDescribed (idOf t) (entries (closed u))) 7 p
+    (λ h₂. bind-all (C.addGroups kind p (entries (closed u)) 0 (groupsOf t)) (groups-as kind p 0 (closed u) [] (groupsOf t)) (λ n a. holds (of-row c a)))))
 
 construct-as : (o : Option Construct) (u : Layouts) (p : ℕ) (t : List ℕ) → constructOf t ≡ o
     → IfOk (λ st. Unfolds u t (unfoldConstruct o u t)) (C.checkConstruct o (state u) p t)
-unfolding C.checkConstruct C.checkRLO C.checkISD unfoldConstruct unfoldRLO
+unfolding C.checkConstruct C.checkISD unfoldConstruct
 construct-as none u p t c = none-owed
 construct-as (some SDA) u p t c = rw (closed-state u) (SDA-as u p t (typeOf (codeOf t)) c refl)
-construct-as (some RLO) u p t c =
-    rw (closed-state u)
-    (reject-all (not (C.goodLengthRow t)) 5 p
-    (λ h. reject-all (eqb (idOf t) 0) 6 p
-    (λ h₁. reject-all (C.isDescribed (idOf t) (entries (closed u))) 7 p
-    (λ h₂. bind-all (C.addGroups p (entries (closed u)) 0 (groupsOf t)) (groups-as p 0 (closed u) [] (groupsOf t)) (λ n a. holds (of-RLO c a))))))
+construct-as (some RLO) u p t c = rw (closed-state u) (row-as rowLayout u p t c)
+construct-as (some GDA) u p t c = rw (closed-state u) (row-as groupArray u p t c)
 construct-as (some ISD) u p t c = always _ (of-ISD c)
 construct-as (some CPT) u p t c = CPT-as u p t (u .current) c refl
 

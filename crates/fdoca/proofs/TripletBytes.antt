@@ -30,7 +30,7 @@ pub pairs-at : (l : List ℕ) (i : ℕ) → i + 1 < length l → pairs (drop i l
 pairs-at l i h = rw (two-at l i h) (ap (λ x. x ∷ pairs (drop (i + 2) l)) (big-two (byte l i) (byte l (i + 1))))
 
 pub threes-at : (l : List ℕ) (i : ℕ) → i + 2 < length l
-    → threes (drop i l) ≡ record { ref = byte l i; taken = byte l (i + 1); factor = byte l (i + 2) } ∷ threes (drop (i + 3) l)
+    → threes (drop i l) ≡ record { ref = byte l i; byte1 = byte l (i + 1); byte2 = byte l (i + 2) } ∷ threes (drop (i + 3) l)
 threes-at l i h = rw (three-at l i h)
 
 pub pairs-end : (l : List ℕ) (i : ℕ) → length l ≤ i → pairs (drop i l) ≡ []
@@ -92,7 +92,7 @@ module _ (d : List ℕ) (j : ℕ) (w : NotTorn d j) where
 
   -- the groups from number k on
   abbrev pub groupOf : (k : ℕ) → Group
-  groupOf k = record { ref = reference d j k; taken = taken d j k; factor = factor d j k }
+  groupOf k = record { ref = reference d j k; byte1 = taken d j k; byte2 = factor d j k }
 
   pub groups-from : (k : ℕ) → 6 + 3 * k ≤ LENGTH d j → threes (drop (3 + 3 * k) (bytesOf d j)) ≡ groupOf k ∷ threes (drop (3 + 3 * suc k) (bytesOf d j))
   groups-from k h =

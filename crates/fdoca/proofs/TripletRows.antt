@@ -6,139 +6,176 @@ use Prim.Native.Nat.{ℕ, zero, suc, _+_, _*_, _≤_, _<_}
 use native.Mathlib.Omega.{arith}
 use mathlib.Core.Bool.{Bool, true, false}
 use mathlib.Core.List.{List, [], _∷_}
-use mathlib.Core.Option.{none}
-use Rattle.fdoca.specs.Basics.{Result, refuse, ok, _>>_, reject, the}
-use Rattle.fdoca.specs.Reasons.{OneOf, place, LENGTH, byteOf, NotTorn, sda, rlo, isd, cpt, Is, InRow, one, row, UpTo, group, continued, Torn, below-2, past-the-end, UnknownConstruct, OutOfSequence, BadLength, BadParameter, NameTaken, missing, repetition-0, over-RLO, over-single, TooManyItems, of-row, OfTriplet, torn, unknown-construct, out-of-sequence, bad-length, bad-parameter, name-taken, too-many-items, missing-reference, not-carried, too-many-up-to}
+use Rattle.fdoca.specs.Basics.{Result, refuse, ok, _>>_, reject}
+use Rattle.fdoca.specs.Reasons.{OneOf, place, LENGTH, byteOf, NotTorn, sda, rlo, gda, isd, cpt, Is, HasGroups, InRow, UpTo, group, continued, Torn, below-2, past-the-end, UnknownConstruct, OutOfSequence, BadLength, BadParameter, NameTaken, missing, repetition-0, over-row, over-single, no-SDA, has-extents, NotCarried, ColumnMisfit, TooManyItems, of-row, OfTriplet, torn, unknown-construct, out-of-sequence, bad-parameter, name-taken, too-many-items, missing-reference, not-carried, column-misfit, too-many-up-to}
 use Rattle.fdoca.proofs.Tests.{by-order}
-use Rattle.fdoca.proofs.TripletTests.{Tells}
-use Rattle.fdoca.proofs.Counting.{up-in-row}
+use Rattle.fdoca.proofs.TripletTests.{Tells, clash}
+use Rattle.fdoca.proofs.Counting.{up-in-row, one-row}
 
--- triplet j has no reason before the turn of number m of its group g
-abbrev pub Clear : List ℕ → (j g m : ℕ) → Type 0
-Clear d j g m = (h n : ℕ) → OfTriplet d j h n → (g < h) ⊎ ((h ≡ g) × (m ≤ n))
+-- triplet j has no reason before the step s of its group g
+abbrev pub Clear : List ℕ → (j g s : ℕ) → Type 0
+Clear d j g s = (h t n : ℕ) → OfTriplet d j h t n → (g < h) ⊎ ((h ≡ g) × (s ≤ t))
 
 -- a result for triplet j: its first reason, or what holds where it has none
 pub data Judged {A : Type 0} (d : List ℕ) (j : ℕ) (Q : A → Type 0) : Result A → Type 0 where
-  refused : {g m p : ℕ} → p ≡ place d j → OfTriplet d j g m → Clear d j g m → Judged d j Q (refuse m p)
-  passed : {a : A} → ((g m : ℕ) → OfTriplet d j g m → ⊥) → Q a → Judged d j Q (ok a)
+  refused : {g s m p : ℕ} → p ≡ place d j → OfTriplet d j g s m → Clear d j g s → Judged d j Q (refuse m p)
+  passed : {a : A} → ((g s m : ℕ) → OfTriplet d j g s m → ⊥) → Q a → Judged d j Q (ok a)
 
 module _ {d : List ℕ} {j : ℕ} where
-  pub clear-more : {g m : ℕ} → Clear d j g m → (OfTriplet d j g m → ⊥) → Clear d j g (suc m)
-  clear-more {g} {m} c x h n r = go (c h n r)
+  pub clear-more : {g s : ℕ} → Clear d j g s → ((n : ℕ) → OfTriplet d j g s n → ⊥) → Clear d j g (suc s)
+  clear-more {g} {s} c x h t n r = go (c h t n r)
     where
-      go : (g < h) ⊎ ((h ≡ g) × (m ≤ n)) → (g < h) ⊎ ((h ≡ g) × (suc m ≤ n))
+      go : (g < h) ⊎ ((h ≡ g) × (s ≤ t)) → (g < h) ⊎ ((h ≡ g) × (suc s ≤ t))
       go (inl l) = inl l
       go (inr q) =
-          by-order m n (λ l. inr (q .0, l)) (λ e. absurd (x (rw (q .0, ← e) at r))) (λ l. absurd (let z : ⊥ = omega (arith, q .1) in z))
+          by-order s t (λ l. inr (q .0, l)) (λ e. absurd (x n (rw (q .0, ← e) at r))) (λ l. absurd (let z : ⊥ = omega (arith, q .1) in z))
+
+  -- a triplet's own reasons are in the order of their numbers
+  own-number : {s n : ℕ} → OfTriplet d j 0 s n → n ≡ s
+  own-number (torn x) = refl
+  own-number (unknown-construct x) = refl
+  own-number (out-of-sequence x) = refl
+  own-number (OfTriplet.bad-length x) = refl
+  own-number (bad-parameter x) = refl
+  own-number (name-taken x) = refl
+  own-number (too-many-items x) = refl
 
   -- one test of the check
-  pub by-row : {A : Type 0} {Q : A → Type 0} (b : Bool) {g m : ℕ} {x : Result A} → Tells b (OfTriplet d j g m) → Clear d j g m
-      → (b ≡ false → Clear d j g (suc m) → Judged d j Q x) → Judged d j Q (reject b m (place d j) >> x)
+  pub by-row : {A : Type 0} {Q : A → Type 0} (b : Bool) {m : ℕ} {x : Result A} → Tells b (OfTriplet d j 0 m m) → Clear d j 0 m
+      → (b ≡ false → Clear d j 0 (suc m) → Judged d j Q x) → Judged d j Q (reject b m (place d j) >> x)
   by-row true t c k = refused refl (t .yes refl) c
-  by-row false t c k = k refl (clear-more c (t .no refl))
+  by-row false t c k = k refl (clear-more c (λ n r. t .no refl (rw (own-number r) at r)))
 
-  pub number-range : {g m : ℕ} → OfTriplet d j g m → (2 ≤ m) × (m ≤ 10)
-  number-range (torn x) = omega arith
-  number-range (unknown-construct x) = omega arith
-  number-range (out-of-sequence x) = omega arith
-  number-range (bad-length x) = omega arith
-  number-range (bad-parameter x) = omega arith
-  number-range (name-taken x) = omega arith
-  number-range (too-many-items x) = omega arith
-  number-range (missing-reference x) = omega arith
-  number-range (not-carried x) = omega arith
-  number-range (too-many-up-to x) = omega arith
+  pub step-range : {g s m : ℕ} → OfTriplet d j g s m → (2 ≤ s) × (s ≤ 10) × (s ≤ m)
+  step-range (torn x) = omega arith
+  step-range (unknown-construct x) = omega arith
+  step-range (out-of-sequence x) = omega arith
+  step-range (OfTriplet.bad-length x) = omega arith
+  step-range (bad-parameter x) = omega arith
+  step-range (name-taken x) = omega arith
+  step-range (too-many-items x) = omega arith
+  step-range (missing-reference x) = omega arith
+  step-range (not-carried x) = omega arith
+  step-range (column-misfit x) = omega arith
+  step-range (too-many-up-to x) = omega arith
 
-  -- from the last number of a group on to the next group, whose first number is 8
-  group-number : {k m : ℕ} → OfTriplet d j (suc k) m → 8 ≤ m
-  group-number (missing-reference x) = omega arith
-  group-number (not-carried x) = omega arith
-  group-number (too-many-up-to x) = omega arith
+  -- from the last step of a group on to the next group, whose first step is 8
+  group-step : {k s m : ℕ} → OfTriplet d j (suc k) s m → 8 ≤ s
+  group-step (missing-reference x) = omega arith
+  group-step (not-carried x) = omega arith
+  group-step (column-misfit x) = omega arith
+  group-step (too-many-up-to x) = omega arith
 
   pub next-group : {g : ℕ} → Clear d j g 11 → Clear d j (suc g) 8
-  next-group {g} c h n r = go (c h n r)
+  next-group {g} c h t n r = go (c h t n r)
     where
-      go : (g < h) ⊎ ((h ≡ g) × (11 ≤ n)) → (suc g < h) ⊎ ((h ≡ suc g) × (8 ≤ n))
+      go : (g < h) ⊎ ((h ≡ g) × (11 ≤ t)) → (suc g < h) ⊎ ((h ≡ suc g) × (8 ≤ t))
       go (inl l) =
-          by-order (suc g) h (λ a. inl a) (λ e. inr (sym e, group-number (rw (← e) at r))) (λ a. absurd (let z : ⊥ = omega arith in z))
-      go (inr q) = absurd (let z : ⊥ = omega (arith, q .1, number-range r .1) in z)
+          by-order (suc g) h (λ a. inl a) (λ e. inr (sym e, group-step (rw (← e) at r))) (λ a. absurd (let z : ⊥ = omega arith in z))
+      go (inr q) = absurd (let z : ⊥ = omega (arith, q .1, step-range r .1) in z)
 
-  -- the first number of all is 2
-  pub first-number : Clear d j 0 2
-  first-number h n (torn x) = inr (refl, omega arith)
-  first-number h n (unknown-construct x) = inr (refl, omega arith)
-  first-number h n (out-of-sequence x) = inr (refl, omega arith)
-  first-number h n (bad-length x) = inr (refl, omega arith)
-  first-number h n (bad-parameter x) = inr (refl, omega arith)
-  first-number h n (name-taken x) = inr (refl, omega arith)
-  first-number h n (too-many-items x) = inr (refl, omega arith)
-  first-number h n (missing-reference x) = inl (omega arith)
-  first-number h n (not-carried x) = inl (omega arith)
-  first-number h n (too-many-up-to x) = inl (omega arith)
+  -- the first step of all is 2
+  pub first-step : Clear d j 0 2
+  first-step h t n r = by-order 0 h (λ l. inl l) (λ e. inr (sym e, step-range r .0)) (λ l. absurd (let z : ⊥ = omega arith in z))
 
   -- the rows of one number each
-  pub row-2 : OfTriplet d j 0 2 → Torn d j
+  pub row-2 : {n : ℕ} → OfTriplet d j 0 2 n → Torn d j
   row-2 (torn x) = x
 
-  pub row-3 : OfTriplet d j 0 3 → UnknownConstruct d j
+  pub row-3 : {n : ℕ} → OfTriplet d j 0 3 n → UnknownConstruct d j
   row-3 (unknown-construct x) = x
 
-  pub row-4 : OfTriplet d j 0 4 → OutOfSequence d j
+  pub row-4 : {n : ℕ} → OfTriplet d j 0 4 n → OutOfSequence d j
   row-4 (out-of-sequence x) = x
 
-  pub row-5 : OfTriplet d j 0 5 → BadLength d j
-  row-5 (bad-length x) = x
+  pub row-5 : {n : ℕ} → OfTriplet d j 0 5 n → BadLength d j
+  row-5 (OfTriplet.bad-length x) = x
 
-  pub row-6 : OfTriplet d j 0 6 → BadParameter d j
+  pub row-6 : {n : ℕ} → OfTriplet d j 0 6 n → BadParameter d j
   row-6 (bad-parameter x) = x
 
-  pub row-7 : OfTriplet d j 0 7 → NameTaken d j
+  pub row-7 : {n : ℕ} → OfTriplet d j 0 7 n → NameTaken d j
   row-7 (name-taken x) = x
 
-  pub no-8 : OfTriplet d j 0 8 → ⊥
-  no-8 x = elim x [ ]
+  pub no-8 : (n : ℕ) → OfTriplet d j 0 8 n → ⊥
+  no-8 n x = elim x [ ]
 
-  pub no-9 : OfTriplet d j 0 9 → ⊥
-  no-9 x = elim x [ ]
+  pub no-9 : (n : ℕ) → OfTriplet d j 0 9 n → ⊥
+  no-9 n x = elim x [ ]
 
-  pub row-10 : OfTriplet d j 0 10 → TooManyItems d j
+  pub row-10 : {n : ℕ} → OfTriplet d j 0 10 n → TooManyItems d j
   row-10 (too-many-items x) = x
 
-  pub tells : {b : Bool} {P : Type 0} {g m : ℕ} → (P → OfTriplet d j g m) → (OfTriplet d j g m → P) → Tells b P → Tells b (OfTriplet d j g m)
+  pub tells : {b : Bool} {P : Type 0} {m : ℕ} → (P → OfTriplet d j 0 m m) → (OfTriplet d j 0 m m → P) → Tells b P → Tells b (OfTriplet d j 0 m m)
   tells f back t = record { yes = λ h. f (t .yes h); no = λ h r. t .no h (back r) }
 
-  -- a triplet of a row is an RLO or a CPT
-  pub in-row-kind : {r : ℕ} → InRow d r j → Is d rlo j ⊎ Is d cpt j
+  -- a triplet of a row is an RLO, a GDA or a CPT
+  pub in-row-kind : {r : ℕ} → InRow d r j → HasGroups d j ⊎ Is d cpt j
   in-row-kind {r} i =
       by-order r j (λ l. inr (i .continued j l (omega arith))) (λ e. inl (rw e at (i .head))) (λ l. absurd (let z : ⊥ = omega (arith, i .behind) in z))
 
+  -- 9 is told of an RLO's row, 21 of a GDA's
+  pub row-head : {r k : ℕ} → InRow d r j → NotCarried d j k → Is d rlo r
+  row-head v (repetition-0 i h g e) = rw (one-row v i) h
+  row-head v (over-row i h g l f q) = rw (one-row v i) h
+  row-head v (over-single i h g l f q e) = rw (one-row v i) h
+
+  pub array-head : {r k : ℕ} → InRow d r j → ColumnMisfit d j k → Is d gda r
+  array-head v (no-SDA i h g f n) = rw (one-row v i) h
+  array-head v (has-extents i h g f n) = rw (one-row v i) h
+  array-head v (ColumnMisfit.bad-length i h g f l n) = rw (one-row v i) h
+
+  not-both : {k : ℕ} → NotCarried d j k → ColumnMisfit d j k → ⊥
+  not-both x (no-SDA i h g f n) = clash (row-head i x) h (omega arith)
+  not-both x (has-extents i h g f n) = clash (row-head i x) h (omega arith)
+  not-both x (ColumnMisfit.bad-length i h g f l n) = clash (row-head i x) h (omega arith)
+
   -- a group with a reason lies within triplet j, which belongs to a row
-  pub group-of : {k m : ℕ} → OfTriplet d j (suc k) m → (6 + 3 * k ≤ LENGTH d j) × (Is d rlo j ⊎ Is d cpt j)
+  pub group-of : {k s m : ℕ} → OfTriplet d j (suc k) s m → (6 + 3 * k ≤ LENGTH d j) × (HasGroups d j ⊎ Is d cpt j)
   group-of (missing-reference (missing i g n)) = (g, in-row-kind i)
-  group-of (not-carried (repetition-0 i g e)) = (g, in-row-kind i)
-  group-of (not-carried (over-RLO i g l f q)) = (g, in-row-kind i)
-  group-of (not-carried (over-single i g l f q e)) = (g, in-row-kind i)
+  group-of (not-carried (repetition-0 i h g e)) = (g, in-row-kind i)
+  group-of (not-carried (over-row i h g l f q)) = (g, in-row-kind i)
+  group-of (not-carried (over-single i h g l f q e)) = (g, in-row-kind i)
+  group-of (column-misfit (no-SDA i h g f n)) = (g, in-row-kind i)
+  group-of (column-misfit (has-extents i h g f n)) = (g, in-row-kind i)
+  group-of (column-misfit (ColumnMisfit.bad-length i h g f l n)) = (g, in-row-kind i)
   group-of (too-many-up-to (of-row u l)) = up-to-group u
     where
-      up-to-group : {r k n : ℕ} → UpTo d r j (suc k) n → (6 + 3 * k ≤ LENGTH d j) × (Is d rlo j ⊎ Is d cpt j)
+      up-to-group : {r k n : ℕ} → UpTo d r j (suc k) n → (6 + 3 * k ≤ LENGTH d j) × (HasGroups d j ⊎ Is d cpt j)
       up-to-group (group u g a) = (g, in-row-kind (up-in-row u))
 
+  -- a step has one number: a row is an RLO's or a GDA's
+  pub one-number : {g s m n : ℕ} → OfTriplet d j g s m → OfTriplet d j g s n → m ≡ n
+  one-number (torn x) (torn y) = refl
+  one-number (unknown-construct x) (unknown-construct y) = refl
+  one-number (out-of-sequence x) (out-of-sequence y) = refl
+  one-number (OfTriplet.bad-length x) (OfTriplet.bad-length y) = refl
+  one-number (bad-parameter x) (bad-parameter y) = refl
+  one-number (name-taken x) (name-taken y) = refl
+  one-number (too-many-items x) (too-many-items y) = refl
+  one-number (missing-reference x) (missing-reference y) = refl
+  one-number (not-carried x) (not-carried y) = refl
+  one-number (not-carried x) (column-misfit y) = absurd (not-both x y)
+  one-number (column-misfit x) (not-carried y) = absurd (not-both y x)
+  one-number (column-misfit x) (column-misfit y) = refl
+  one-number (too-many-up-to x) (too-many-up-to y) = refl
+
   -- a triplet with no reason of its own and no group with one has none at all
-  pub none-left : {k : ℕ} → Clear d j k 11 → ((i m : ℕ) → k ≤ i → OfTriplet d j (suc i) m → ⊥) → (g m : ℕ) → OfTriplet d j g m → ⊥
-  none-left {k} c no-group g m r = go g r (c g m r)
+  pub none-left : {k : ℕ} → Clear d j k 11 → ((i s m : ℕ) → k ≤ i → OfTriplet d j (suc i) s m → ⊥) → (g s m : ℕ) → OfTriplet d j g s m → ⊥
+  none-left {k} c no-group g s m r = go g r (c g s m r)
     where
-      go : (g : ℕ) → OfTriplet d j g m → (k < g) ⊎ ((g ≡ k) × (11 ≤ m)) → ⊥
+      go : (g : ℕ) → OfTriplet d j g s m → (k < g) ⊎ ((g ≡ k) × (11 ≤ s)) → ⊥
       go zero r (inl l) = omega arith
-      go (suc i) r (inl l) = no-group i m (omega arith) r
-      go g r (inr q) = let z : ⊥ = omega (arith, q .1, number-range r .1) in z
+      go (suc i) r (inl l) = no-group i s m (omega arith) r
+      go g r (inr q) = let z : ⊥ = omega (arith, q .1, step-range r .1) in z
 
   -- a whole triplet passes number 2, and one of a known type 3
   pub whole-clear : NotTorn d j → Clear d j 0 3
-  whole-clear w = clear-more first-number (λ r. not-torn (row-2 r))
+  whole-clear w = clear-more first-step (λ n r. not-torn (row-2 r))
     where
       not-torn : Torn d j → ⊥
       not-torn (below-2 x) = omega (arith, w .long)
       not-torn (past-the-end x) = omega (arith, w .fits)
 
-  pub known-clear : NotTorn d j → OneOf (byteOf d j 1) (sda ∷ rlo ∷ isd ∷ cpt ∷ []) → Clear d j 0 4
-  known-clear w o = clear-more (whole-clear w) (λ r. row-3 r .not-carried o)
+  pub known-clear : NotTorn d j → OneOf (byteOf d j 1) (sda ∷ rlo ∷ gda ∷ isd ∷ cpt ∷ []) → Clear d j 0 4
+  known-clear w o = clear-more (whole-clear w) (λ n r. row-3 r .not-carried o)

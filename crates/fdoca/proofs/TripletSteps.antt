@@ -11,24 +11,25 @@ use mathlib.Core.List.{List, [], _∷_}
 use mathlib.Core.Option.{Option, none, some}
 use lib.Dec.{ltb, eqb}
 use borrow.Author.Tests.{ltb-true, ltb-false, eqb-true, eqb-false, not-true, not-false}
-use Rattle.fdoca.specs.Basics.{if_then_else_, lookup, isSome, product, Result, ok, _>>=_, the}
-use Rattle.fdoca.specs.Triplet.{Construct, constructs, constructOf, idOf, extentsOf, groupsOf}
+use Rattle.fdoca.specs.Basics.{if_then_else_, lookup, isSome, product, Result, ok, _>>=_}
+use Rattle.fdoca.specs.Triplet.{Construct, constructs, Kind, rowLayout, groupArray, constructOf, idOf, codeOf, extentsOf, groupsOf}
 use Rattle.fdoca.specs.Triplet as T
 use Rattle.fdoca.specs.Check as C
-use Rattle.fdoca.specs.Check.{Entry, State, closed, closeRow, isDescribed, goodLengthSDA, goodSDA, goodLengthRow, goodLengthISD, goodISD, maxItems, addGroups, checkSDA, checkRLO, checkCPT, checkISD, checkConstruct, checkTriplet}
-use Rattle.fdoca.specs.Reasons.{OneOf, here, there, place, LENGTH, byteOf, NotTorn, There, sda, rlo, isd, cpt, Is, Describes, InRow, Refers, extent, one, two, three, Counts, row, UpTo, start, continued, OutOfSequence, CPT-first, CPT-after, ISD-later, NameTaken, taken-by, TooManyItems, of-SDA, OfTriplet, unknown-construct, out-of-sequence, bad-length, bad-parameter, name-taken, too-many-items}
+use Rattle.fdoca.specs.Check.{Entry, State, closed, closeRow, isDescribed, goodLengthSDA, goodSDA, goodLengthRow, goodLengthISD, goodISD, maxItems, addGroups, checkSDA, checkRow, checkCPT, checkISD, checkConstruct, checkTriplet}
+use Rattle.fdoca.specs.Reasons.{OneOf, here, there, place, LENGTH, byteOf, NotTorn, There, sda, rlo, gda, isd, cpt, Is, HasGroups, Describes, InRow, Refers, extent, one, two, three, Counts, row, UpTo, start, continued, OutOfSequence, CPT-first, CPT-after, ISD-later, NameTaken, taken-by, TooManyItems, of-SDA, OfTriplet, unknown-construct, out-of-sequence, bad-parameter, name-taken, too-many-items}
 use Rattle.fdoca.proofs.Tests.{by-order}
 use Rattle.fdoca.proofs.TripletBytes.{bytesOf, byte-bytes}
 use Rattle.fdoca.proofs.Table.{looked-up}
-use Rattle.fdoca.proofs.TripletTests.{Tells, clash, no-describer, Extents, none-there, one-there, two-there, three-there, extents-are, SDA-length, SDA-forms, SDA-long, SDA-parameters, row-form, row-length, RLO-parameters, CPT-parameters, ISD-length, ISD-forms, ISD-parameters}
+use Rattle.fdoca.proofs.TripletTests.{Tells, clash, row-clash, no-describer, Extents, none-there, one-there, two-there, three-there, extents-are, SDA-length, SDA-forms, SDA-long, SDA-parameters, row-form, row-length, row-parameters, CPT-parameters, ISD-length, ISD-forms, ISD-parameters}
 use Rattle.fdoca.proofs.Counting.{Unique, up-in-row, count-same}
 use Rattle.fdoca.proofs.TripletRows.{Clear, Judged, refused, passed, clear-more, by-row, row-4, row-5, row-6, row-7, no-8, no-9, row-10, tells, in-row-kind, group-of, none-left, whole-clear, known-clear}
-use Rattle.fdoca.proofs.Groups.{EntryAt, of-single, of-array, of-RLO, entry-counts, Known, judge-groups}
+use Rattle.fdoca.proofs.Groups.{EntryAt, of-single, of-array, of-row, entry-counts, kindByte, Known, judge-groups}
 
 -- What is kept of the row that a CPT may continue, before triplet j.
-pub data Current (d : List ℕ) (j : ℕ) (es : List (ℕ × Entry)) : Option (ℕ × ℕ) → Type 0 where
-  no-row : Known d j es → ((i : ℕ) → j ≡ suc i → (byteOf d i 1 ≢ rlo) × (byteOf d i 1 ≢ cpt)) → Current d j es none
-  open-row : {r i k id n : ℕ} → j ≡ suc i → UpTo d r i k n → LENGTH d i ≡ 3 + 3 * k → byteOf d r 2 ≡ id → Known d r es → Current d j es (some (id, n))
+pub data Current (d : List ℕ) (j : ℕ) (es : List (ℕ × Entry)) : Option (ℕ × ℕ × Kind) → Type 0 where
+  no-row : Known d j es → ((i : ℕ) → j ≡ suc i → OneOf (byteOf d i 1) (rlo ∷ gda ∷ cpt ∷ []) → ⊥) → Current d j es none
+  open-row : {r i k id n : ℕ} {kind : Kind} → j ≡ suc i → Is d (kindByte kind) r → UpTo d r i k n → LENGTH d i ≡ 3 + 3 * k → byteOf d r 2 ≡ id → Known d r es
+      → Current d j es (some (id, n, kind))
 
 -- What the check knows before triplet j.
 pub record Before (d : List ℕ) (j : ℕ) (st : State) : Type 0 where
@@ -78,13 +79,13 @@ whole-more {d} {j} f w i h = by-order i j (λ l. f i l) (λ e. rw e w) (λ l. ab
 pub closed-known : {d : List ℕ} {j : ℕ} {st : State} → Before d j st → (Is d cpt j → ⊥) → Known d j (closed st)
 closed-known {d} {j} {st} b n = go (st .current) (b .current)
   where
-    go : (o : Option (ℕ × ℕ)) → Current d j (st .described) o → Known d j (closeRow (st .described) o)
+    go : (o : Option (ℕ × ℕ × Kind)) → Current d j (st .described) o → Known d j (closeRow (st .described) o)
     go none (no-row k f) = k
-    go (some (id, m)) (open-row {r = r} {i = i} e u l t k) =
+    go (some (id, m, kind)) (open-row {r = r} {i = i} e is u l t k) =
         let h = up-in-row u in
         let x : Known d (suc r) ((id, C.row m) ∷ st .described) =
-        known-more k (record { kind = inr (h .head); named = t }) (of-RLO (h .head) (row u l (rw e at n))) in
-        known-wider x (omega (arith, h .behind)) (λ q y g c z. no-describer (h .continued q g (omega arith)) (omega arith) (omega arith) z)
+        known-more k (record { kind = inr (h .head); named = t }) (of-row (h .head) (row u l (rw e at n))) in
+        known-wider x (omega (arith, h .behind)) (λ q y g c z. no-describer (h .continued q g (omega arith)) (omega arith) (omega arith) (omega arith) z)
 
 -- the first triplet stands at 0, and no other
 place-first : (d : List ℕ) → place d 0 ≡ 0
@@ -100,17 +101,38 @@ place-later (suc i) h f = omega (arith, f i (omega arith) .long)
 abbrev typeByte : Construct → ℕ
 typeByte T.SDA = sda
 typeByte T.RLO = rlo
+typeByte T.GDA = gda
 typeByte T.ISD = isd
 typeByte T.CPT = cpt
 
 construct-type : (n : ℕ) (x : Construct) → lookup n constructs ≡ some x → n ≡ typeByte x
 construct-type n x h = eqb-true n (typeByte x) (looked-up (λ n x. eqb n (typeByte x)) n constructs x refl h)
 
-known-type : {n : ℕ} → OneOf n (sda ∷ rlo ∷ isd ∷ cpt ∷ []) → (x : Construct) × (lookup n constructs ≡ some x)
+known-type : {n : ℕ} → OneOf n (sda ∷ rlo ∷ gda ∷ isd ∷ cpt ∷ []) → (x : Construct) × (lookup n constructs ≡ some x)
 known-type (here e) = (T.SDA, rw e)
 known-type (there (here e)) = (T.RLO, rw e)
-known-type (there (there (here e))) = (T.ISD, rw e)
-known-type (there (there (there (here e)))) = (T.CPT, rw e)
+known-type (there (there (here e))) = (T.GDA, rw e)
+known-type (there (there (there (here e)))) = (T.ISD, rw e)
+known-type (there (there (there (there (here e))))) = (T.CPT, rw e)
+
+-- a triplet of a kind has groups, and its type is one of those that a CPT may follow
+headed : {d : List ℕ} {j : ℕ} (kind : Kind) → Is d (kindByte kind) j → HasGroups d j
+headed rowLayout i = inl i
+headed groupArray i = inr i
+
+kind-type : {d : List ℕ} {j : ℕ} (kind : Kind) → Is d (kindByte kind) j → OneOf (byteOf d j 1) (rlo ∷ gda ∷ cpt ∷ [])
+kind-type rowLayout i = here (i .type)
+kind-type groupArray i = there (here (i .type))
+
+kind-carried : {d : List ℕ} {j : ℕ} (kind : Kind) → Is d (kindByte kind) j → OneOf (byteOf d j 1) (sda ∷ rlo ∷ gda ∷ isd ∷ cpt ∷ [])
+kind-carried rowLayout i = there (here (i .type))
+kind-carried groupArray i = there (there (here (i .type)))
+
+-- and no other triplet has
+not-followed : {d : List ℕ} {c j : ℕ} → Is d c j → c ≢ rlo → c ≢ gda → c ≢ cpt → OneOf (byteOf d j 1) (rlo ∷ gda ∷ cpt ∷ []) → ⊥
+not-followed is a b e (here h) = a (sym (is .type) ∙ h)
+not-followed is a b e (there (here h)) = b (sym (is .type) ∙ h)
+not-followed is a b e (there (there (here h))) = e (sym (is .type) ∙ h)
 
 -- a result that is taken further where there is no reason
 bind-judged : {A B : Type 0} {d : List ℕ} {j : ℕ} {P : A → Type 0} {Q : B → Type 0} {x : Result A} (f : A → B) → Judged d j P x → ((a : A) → P a → Q (f a))
@@ -119,17 +141,17 @@ bind-judged f (refused e r c) g = refused e r c
 bind-judged f (passed {a = a} n p) g = passed n (g a p)
 
 -- what is kept of an SDA
-SDA-entry : {d : List ℕ} {j : ℕ} {xs : List ℕ} → Is d sda j → Extents d j xs → EntryAt d j (C.array xs)
-SDA-entry i (none-there e) = of-single i e
-SDA-entry i (one-there e) = of-array i (one e) refl
-SDA-entry {d} {j} i (two-there e) = let q : extent d j 1 * 1 ≡ extent d j 1 = omega arith in of-array {xs = extent d j 1 ∷ []} i (rw q (two e)) refl
-SDA-entry {d} {j} i (three-there e) = let q : extent d j 2 * 1 ≡ extent d j 2 = omega arith in of-array {xs = extent d j 1 ∷ extent d j 2 ∷ []} i (rw q (three e)) refl
+SDA-entry : {d : List ℕ} {j code : ℕ} {xs : List ℕ} → Is d sda j → code ≡ byteOf d j 3 → Extents d j xs → EntryAt d j (C.array code xs)
+SDA-entry i c (none-there e) = of-single i e c
+SDA-entry i c (one-there e) = of-array i (one e) refl
+SDA-entry {d} {j} i c (two-there e) = let q : extent d j 1 * 1 ≡ extent d j 1 = omega arith in of-array {xs = extent d j 1 ∷ []} i (rw q (two e)) refl
+SDA-entry {d} {j} i c (three-there e) = let q : extent d j 2 * 1 ≡ extent d j 2 = omega arith in of-array {xs = extent d j 1 ∷ extent d j 2 ∷ []} i (rw q (three e)) refl
 
 -- THE CONSTRUCTS, after triplets with no reason.
 module _ (d : List ℕ) (j : ℕ) (there-is : There d j) (w : NotTorn d j) where
-  -- number 7: the id of an SDA or RLO
+  -- number 7: the id of an SDA, RLO or GDA
   name-told : (es : List (ℕ × Entry)) → Known d j es → Describes d (byteOf d j 2) j → idOf (bytesOf d j) ≡ byteOf d j 2
-      → Tells (isDescribed (idOf (bytesOf d j)) es) (OfTriplet d j 0 7)
+      → Tells (isDescribed (idOf (bytesOf d j)) es) (OfTriplet d j 0 7 7)
   name-told es k h e = tells name-taken row-7 (rw e (go (lookup (byteOf d j 2) es) refl))
     where
       free : lookup (byteOf d j 2) es ≡ none → NameTaken d j → ⊥
@@ -142,10 +164,10 @@ module _ (d : List ℕ) (j : ℕ) (there-is : There d j) (w : NotTorn d j) where
           record { yes = λ y. taken-by h (f .1 .earlier) (f .1 .describes); no = λ y. absurd (let z : _≡_ {A = ℕ} 0 1 = cc in let w : ⊥ = omega arith in w) }
 
   -- a construct that is always in sequence
-  in-sequence : {c : ℕ} → Is d c j → c ≢ cpt → c ≢ isd → OutOfSequence d j → ⊥
-  in-sequence i a b (CPT-first k e) = clash i k a
-  in-sequence i a b (CPT-after k e n m) = clash i k a
-  in-sequence i a b (ISD-later k e) = clash i k b
+  in-sequence : (Is d cpt j → ⊥) → (Is d isd j → ⊥) → OutOfSequence d j → ⊥
+  in-sequence a b (CPT-first k e) = a k
+  in-sequence a b (CPT-after k e n) = a k
+  in-sequence a b (ISD-later k e) = b k
 
   module _ (st : State) (before : Before d j st) where
     -- An SDA.
@@ -157,102 +179,107 @@ module _ (d : List ℕ) (j : ℕ) (there-is : There d j) (w : NotTorn d j) where
         SDA-id : idOf (bytesOf d j) ≡ byteOf d j 2
         SDA-id = byte-bytes d j w 2 (omega (arith, SDA-long d j w is forms))
 
-        SDA-named : Tells (isDescribed (idOf (bytesOf d j)) (closed st)) (OfTriplet d j 0 7)
+        SDA-kept : EntryAt d j (C.array (codeOf (bytesOf d j)) (extentsOf (bytesOf d j)))
+        SDA-kept = SDA-entry is (byte-bytes d j w 3 (omega (arith, SDA-long d j w is forms))) (extents-are d j w forms)
+
+        SDA-named : Tells (isDescribed (idOf (bytesOf d j)) (closed st)) (OfTriplet d j 0 7 7)
         SDA-named = name-told (closed st) SDA-known (record { kind = inl is; named = refl }) SDA-id
 
-        SDA-counted : Tells (ltb maxItems (product (extentsOf (bytesOf d j)))) (OfTriplet d j 0 10)
+        SDA-counted : Tells (ltb maxItems (product (extentsOf (bytesOf d j)))) (OfTriplet d j 0 10 10)
         SDA-counted = tells too-many-items row-10 (record { yes = λ h. of-SDA is counts (ltb-true maxItems _ h); no = λ h. fits (ltb-false maxItems (product (extentsOf (bytesOf d j))) h) })
           where
             counts : Counts d j (product (extentsOf (bytesOf d j)))
-            counts = entry-counts (SDA-entry is (extents-are d j w forms))
+            counts = entry-counts SDA-kept
 
             fits : product (extentsOf (bytesOf d j)) ≤ maxItems → TooManyItems d j → ⊥
             fits h (of-SDA i c l) = let e = count-same (before .unique) counts c in let z : ⊥ = omega (arith, e) in z
 
         SDA-next : isDescribed (idOf (bytesOf d j)) (closed st) ≡ false
-            → Before d (suc j) (record { described = (idOf (bytesOf d j), C.array (extentsOf (bytesOf d j))) ∷ closed st; current = none })
+            → Before d (suc j) (record { described = (idOf (bytesOf d j), C.array (codeOf (bytesOf d j)) (extentsOf (bytesOf d j))) ∷ closed st; current = none })
         SDA-next h =
             record {
               whole = whole-more (before .whole) w;
               unique = unique-more (before .unique) (λ id q l a b. SDA-named .no h (name-taken (taken-by b l a)));
               current =
-                  no-row (known-more SDA-known (record { kind = inl is; named = sym SDA-id }) (SDA-entry is (extents-are d j w forms)))
-                  (λ i e. let q : j ≡ i = omega arith in rw (← q) (λ x. clash is (record { there = there-is; type = x }) (omega arith), λ x. clash is (record { there = there-is; type = x }) (omega arith)));
+                  no-row (known-more SDA-known (record { kind = inl is; named = sym SDA-id }) SDA-kept)
+                  (λ i e. let q : j ≡ i = omega arith in rw (← q) (not-followed is (omega arith) (omega arith) (omega arith)));
             }
 
       judge-SDA : Judged d j (Before d (suc j)) (checkSDA (closed st) (place d j) (bytesOf d j))
       unfolding checkSDA
       judge-SDA =
-          by-row (not (goodLengthSDA (bytesOf d j))) (tells bad-length row-5 (SDA-length d j w is))
-          (clear-more (known-clear w (here (is .type))) (λ r. in-sequence is (omega arith) (omega arith) (row-4 r)))
+          by-row (not (goodLengthSDA (bytesOf d j))) (tells OfTriplet.bad-length row-5 (SDA-length d j w is))
+          (clear-more (known-clear w (here (is .type))) (λ n r. in-sequence (λ i. clash is i (omega arith)) (λ i. clash is i (omega arith)) (row-4 r)))
           (λ h₅ c₆. by-row (not (goodSDA (bytesOf d j))) (tells bad-parameter row-6 (SDA-parameters d j w is (SDA-forms d j w is h₅))) c₆
           (λ h₆ c₇. by-row (isDescribed (idOf (bytesOf d j)) (closed st)) (SDA-named (SDA-forms d j w is h₅)) c₇
           (λ h₇ c₈. by-row (ltb maxItems (product (extentsOf (bytesOf d j)))) (SDA-counted (SDA-forms d j w is h₅)) (clear-more (clear-more c₈ no-8) no-9)
-          (λ h₁₀ c₁₁. passed (none-left c₁₁ (λ i m k r. no-group (group-of r .1))) (SDA-next (SDA-forms d j w is h₅) h₇)))))
+          (λ h₁₀ c₁₁. passed (none-left c₁₁ (λ i s m k r. no-group (group-of r .1))) (SDA-next (SDA-forms d j w is h₅) h₇)))))
         where
-          no-group : Is d rlo j ⊎ Is d cpt j → ⊥
-          no-group (inl i) = clash is i (omega arith)
+          no-group : HasGroups d j ⊎ Is d cpt j → ⊥
+          no-group (inl i) = row-clash i is (omega arith) (omega arith)
           no-group (inr i) = clash is i (omega arith)
 
-    -- An RLO.
-    module _ (is : Is d rlo j) where
-      RLO-known : Known d j (closed st)
-      RLO-known = closed-known before (λ i. clash is i (omega arith))
+    -- An RLO or a GDA.
+    module _ (kind : Kind) (is : Is d (kindByte kind) j) where
+      is-row : HasGroups d j
+      is-row = headed kind is
+
+      row-known : Known d j (closed st)
+      row-known = closed-known before (λ i. row-clash is-row i (omega arith) (omega arith))
 
       module _ (k : ℕ) (form : LENGTH d j ≡ 6 + 3 * k) where
-        RLO-id : idOf (bytesOf d j) ≡ byteOf d j 2
-        RLO-id = byte-bytes d j w 2 (omega arith)
+        row-id : idOf (bytesOf d j) ≡ byteOf d j 2
+        row-id = byte-bytes d j w 2 (omega arith)
 
-        RLO-named : Tells (isDescribed (idOf (bytesOf d j)) (closed st)) (OfTriplet d j 0 7)
-        RLO-named = name-told (closed st) RLO-known (record { kind = inr is; named = refl }) RLO-id
+        row-named : Tells (isDescribed (idOf (bytesOf d j)) (closed st)) (OfTriplet d j 0 7 7)
+        row-named = name-told (closed st) row-known (record { kind = inr is-row; named = refl }) row-id
 
-        RLO-next : {n : ℕ} → isDescribed (idOf (bytesOf d j)) (closed st) ≡ false → UpTo d j j (suc k) n
-            → Before d (suc j) (record { described = closed st; current = some (idOf (bytesOf d j), n) })
-        RLO-next h u =
+        row-next : {n : ℕ} → isDescribed (idOf (bytesOf d j)) (closed st) ≡ false → UpTo d j j (suc k) n
+            → Before d (suc j) (record { described = closed st; current = some (idOf (bytesOf d j), n, kind) })
+        row-next h u =
             record {
               whole = whole-more (before .whole) w;
-              unique = unique-more (before .unique) (λ id q l a b. RLO-named .no h (name-taken (taken-by b l a)));
-              current = open-row refl u (omega arith) (sym RLO-id) RLO-known;
+              unique = unique-more (before .unique) (λ id q l a b. row-named .no h (name-taken (taken-by b l a)));
+              current = open-row refl is u (omega arith) (sym row-id) row-known;
             }
 
         judge-rows : isDescribed (idOf (bytesOf d j)) (closed st) ≡ false → Clear d j 0 8
             → Judged d j (Before d (suc j))
-            (addGroups (place d j) (closed st) 0 (groupsOf (bytesOf d j)) >>= (λ n. ok (record { described = closed st; current = some (idOf (bytesOf d j), n) })))
+            (addGroups kind (place d j) (closed st) 0 (groupsOf (bytesOf d j)) >>= (λ n. ok (record { described = closed st; current = some (idOf (bytesOf d j), n, kind) })))
         judge-rows h c =
-            bind-judged (λ n. record { described = closed st; current = some (idOf (bytesOf d j), n) })
-            (judge-groups d j w j (record { head = is; behind = omega arith; continued = λ i a l. absurd (let z : ⊥ = omega arith in z) }) (before .unique) (closed st) RLO-known (suc k) 0 0 (omega arith) (start is)
-            (clear-more (clear-more (clear-more c no-8) no-9) (λ r. one-item (row-10 r))))
-            (λ n u. RLO-next h (rw (zero-add (suc k)) at u))
+            bind-judged (λ n. record { described = closed st; current = some (idOf (bytesOf d j), n, kind) })
+            (judge-groups d j w j (record { head = is-row; behind = omega arith; continued = λ i a l. absurd (let z : ⊥ = omega arith in z) }) (before .unique) (closed st) row-known kind is (suc k) 0 0 (omega arith) (start is-row)
+            (clear-more (clear-more (clear-more c no-8) no-9) (λ n r. one-item (row-10 r))))
+            (λ n u. row-next h (rw (zero-add (suc k)) at u))
           where
             one-item : TooManyItems d j → ⊥
-            one-item (of-SDA i c l) = clash is i (omega arith)
+            one-item (of-SDA i c l) = row-clash is-row i (omega arith) (omega arith)
 
-      judge-RLO : Judged d j (Before d (suc j)) (checkRLO (closed st) (place d j) (bytesOf d j))
-      unfolding checkRLO
-      judge-RLO =
-          by-row (not (goodLengthRow (bytesOf d j))) (tells bad-length row-5 (row-length d j w (here (is .type))))
-          (clear-more (known-clear w (there (here (is .type)))) (λ r. in-sequence is (omega arith) (omega arith) (row-4 r)))
+      judge-row : Judged d j (Before d (suc j)) (checkRow kind (closed st) (place d j) (bytesOf d j))
+      unfolding checkRow
+      judge-row =
+          by-row (not (goodLengthRow (bytesOf d j))) (tells OfTriplet.bad-length row-5 (row-length d j w (kind-type kind is)))
+          (clear-more (known-clear w (kind-carried kind is))
+          (λ n r. in-sequence (λ i. row-clash is-row i (omega arith) (omega arith)) (λ i. row-clash is-row i (omega arith) (omega arith)) (row-4 r)))
           (λ h₅ c₆. (let f = row-form d j w h₅ in
-          by-row (eqb (idOf (bytesOf d j)) 0) (tells bad-parameter row-6 (RLO-parameters d j w is (omega (arith, f .1)))) c₆
-          (λ h₆ c₇. by-row (isDescribed (idOf (bytesOf d j)) (closed st)) (RLO-named (f .0) (f .1)) c₇
+          by-row (eqb (idOf (bytesOf d j)) 0) (tells bad-parameter row-6 (row-parameters d j w is-row (omega (arith, f .1)))) c₆
+          (λ h₆ c₇. by-row (isDescribed (idOf (bytesOf d j)) (closed st)) (row-named (f .0) (f .1)) c₇
           (λ h₇ c₈. judge-rows (f .0) (f .1) h₇ c₈))))
 
     -- A CPT: it continues the row at hand.
     module _ (is : Is d cpt j) where
       CPT-clear : Clear d j 0 4
-      CPT-clear = known-clear w (there (there (there (here (is .type)))))
+      CPT-clear = known-clear w (there (there (there (there (here (is .type))))))
 
-      -- right behind an RLO or a CPT
+      -- right behind an RLO, a GDA or a CPT
       CPT-placed : {i r : ℕ} → j ≡ suc i → InRow d r i → OutOfSequence d j → ⊥
       CPT-placed e h (CPT-first k z) = omega arith
-      CPT-placed {i} {r} e h (CPT-after {i = u} k z n m) = go (in-row-kind h)
+      CPT-placed {i} {r} e h (CPT-after {i = u} k z n) = let q : i ≡ u = omega arith in n (rw q at (followed (in-row-kind h)))
         where
-          q : i ≡ u
-          q = omega arith
-
-          go : Is d rlo i ⊎ Is d cpt i → ⊥
-          go (inl x) = n (rw q at (x .type))
-          go (inr x) = m (rw q at (x .type))
+          followed : HasGroups d i ⊎ Is d cpt i → OneOf (byteOf d i 1) (rlo ∷ gda ∷ cpt ∷ [])
+          followed (inl (inl x)) = here (x .type)
+          followed (inl (inr x)) = there (here (x .type))
+          followed (inr x) = there (there (here (x .type)))
       CPT-placed e h (ISD-later k z) = clash is k (omega arith)
 
       CPT-none : Current d j (st .described) none → OutOfSequence d j
@@ -260,58 +287,58 @@ module _ (d : List ℕ) (j : ℕ) (there-is : There d j) (w : NotTorn d j) where
         where
           go : (i : ℕ) → j ≡ i → OutOfSequence d j
           go zero e = CPT-first is e
-          go (suc i) e = CPT-after is e (f i e .0) (f i e .1)
+          go (suc i) e = CPT-after is e (f i e)
 
-      CPT-next : {id r n k : ℕ} → byteOf d r 2 ≡ id → Known d r (st .described) → LENGTH d j ≡ 3 + 3 * k → UpTo d r j k n
-          → Before d (suc j) (record { described = st .described; current = some (id, n) })
-      CPT-next t k l u =
+      CPT-next : {id r n k : ℕ} {kind : Kind} → byteOf d r 2 ≡ id → Is d (kindByte kind) r → Known d r (st .described) → LENGTH d j ≡ 3 + 3 * k → UpTo d r j k n
+          → Before d (suc j) (record { described = st .described; current = some (id, n, kind) })
+      CPT-next t head k l u =
           record {
             whole = whole-more (before .whole) w;
-            unique = unique-more (before .unique) (λ id q l a b. no-describer is (omega arith) (omega arith) b);
-            current = open-row refl u l t k;
+            unique = unique-more (before .unique) (λ id q l a b. no-describer is (omega arith) (omega arith) (omega arith) b);
+            current = open-row refl head u l t k;
           }
 
-      judge-continued : {id n : ℕ} → Current d j (st .described) (some (id, n)) → (k : ℕ) → LENGTH d j ≡ 6 + 3 * k → Clear d j 0 7
+      judge-continued : {id n : ℕ} {kind : Kind} → Current d j (st .described) (some (id, n, kind)) → (k : ℕ) → LENGTH d j ≡ 6 + 3 * k → Clear d j 0 7
           → Judged d j (Before d (suc j))
-          (addGroups (place d j) (st .described) n (groupsOf (bytesOf d j)) >>= (λ m. ok (record { described = st .described; current = some (id, m) })))
-      judge-continued {id} {n} (open-row {r = r} {i = i} e u l t known) k form c =
-          bind-judged (λ m. record { described = st .described; current = some (id, m) })
-          (judge-groups d j w r (up-in-row v) (λ x q y h g. before .unique x q y (omega (arith, up-in-row v .behind)) (omega (arith, up-in-row v .behind))) (st .described) known (suc k) 0 n (omega arith) v
-          (clear-more (clear-more (clear-more (clear-more c (λ x. no-name (row-7 x))) no-8) no-9) (λ x. one-item (row-10 x))))
-          (λ m x. CPT-next t known (omega arith) (rw (zero-add (suc k)) at x))
+          (addGroups kind (place d j) (st .described) n (groupsOf (bytesOf d j)) >>= (λ m. ok (record { described = st .described; current = some (id, m, kind) })))
+      judge-continued {id} {n} {kind} (open-row {r = r} {i = i} e head u l t known) k form c =
+          bind-judged (λ m. record { described = st .described; current = some (id, m, kind) })
+          (judge-groups d j w r (up-in-row v) (λ x q y h g. before .unique x q y (omega (arith, up-in-row v .behind)) (omega (arith, up-in-row v .behind))) (st .described) known kind head (suc k) 0 n (omega arith) v
+          (clear-more (clear-more (clear-more (clear-more c (λ n x. no-name (row-7 x))) no-8) no-9) (λ n x. one-item (row-10 x))))
+          (λ m x. CPT-next t head known (omega arith) (rw (zero-add (suc k)) at x))
         where
           v : UpTo d r j 0 n
           v = rw e (continued u l (rw e at is))
 
           no-name : NameTaken d j → ⊥
-          no-name (taken-by a h b) = no-describer is (omega arith) (omega arith) a
+          no-name (taken-by a h b) = no-describer is (omega arith) (omega arith) (omega arith) a
 
           one-item : TooManyItems d j → ⊥
           one-item (of-SDA i c l) = clash is i (omega arith)
 
-      judge-row : (o : Option (ℕ × ℕ)) → Current d j (st .described) o
+      judge-current : (o : Option (ℕ × ℕ × Kind)) → Current d j (st .described) o
           → Judged d j (Before d (suc j)) (checkCPT (record { described = st .described; current = o }) (place d j) (bytesOf d j))
       unfolding checkCPT
-      judge-row none h = refused refl (out-of-sequence (CPT-none h)) CPT-clear
-      judge-row (some (id, n)) h =
-          by-row (not (goodLengthRow (bytesOf d j))) (tells bad-length row-5 (row-length d j w (there (here (is .type)))))
-          (clear-more CPT-clear (λ x. placed h (row-4 x)))
+      judge-current none h = refused refl (out-of-sequence (CPT-none h)) CPT-clear
+      judge-current (some (id, n, kind)) h =
+          by-row (not (goodLengthRow (bytesOf d j))) (tells OfTriplet.bad-length row-5 (row-length d j w (there (there (here (is .type))))))
+          (clear-more CPT-clear (λ n x. placed h (row-4 x)))
           (λ h₅ c₆. (let f = row-form d j w h₅ in
           by-row (not (eqb (idOf (bytesOf d j)) 0)) (tells bad-parameter row-6 (CPT-parameters d j w is (omega (arith, f .1)))) c₆
           (λ h₆ c₇. judge-continued h (f .0) (f .1) c₇)))
         where
-          placed : Current d j (st .described) (some (id, n)) → OutOfSequence d j → ⊥
-          placed (open-row e u l t known) = CPT-placed e (up-in-row u)
+          placed : Current d j (st .described) (some (id, n, kind)) → OutOfSequence d j → ⊥
+          placed (open-row e head u l t known) = CPT-placed e (up-in-row u)
 
       judge-CPT : Judged d j (Before d (suc j)) (checkCPT st (place d j) (bytesOf d j))
-      judge-CPT = judge-row (st .current) (before .current)
+      judge-CPT = judge-current (st .current) (before .current)
 
     -- An ISD is the first triplet.
     module _ (is : Is d isd j) where
       ISD-first : place d j ≡ 0 → j ≡ 0
       ISD-first e = by-order j 0 (λ l. absurd (let z : ⊥ = omega arith in z)) (λ q. q) (λ l. absurd (let z : ⊥ = omega (arith, place-later j l (before .whole)) in z))
 
-      ISD-placed : Tells (not (eqb (place d j) 0)) (OfTriplet d j 0 4)
+      ISD-placed : Tells (not (eqb (place d j) 0)) (OfTriplet d j 0 4 4)
       ISD-placed =
           tells out-of-sequence row-4
           (record {
@@ -321,42 +348,42 @@ module _ (d : List ℕ) (j : ℕ) (there-is : There d j) (w : NotTorn d j) where
         where
           first-of-all : j ≡ 0 → OutOfSequence d j → ⊥
           first-of-all e (CPT-first k z) = clash is k (omega arith)
-          first-of-all e (CPT-after k z n m) = clash is k (omega arith)
+          first-of-all e (CPT-after k z n) = clash is k (omega arith)
           first-of-all e (ISD-later k z) = z e
 
       ISD-next : j ≡ 0 → Before d (suc j) st
       ISD-next e =
           record {
             whole = whole-more (before .whole) w;
-            unique = unique-more (before .unique) (λ id q l a b. no-describer is (omega arith) (omega arith) b);
+            unique = unique-more (before .unique) (λ id q l a b. no-describer is (omega arith) (omega arith) (omega arith) b);
             current = go (st .current) (before .current);
           }
         where
-          go : (o : Option (ℕ × ℕ)) → Current d j (st .described) o → Current d (suc j) (st .described) o
+          go : (o : Option (ℕ × ℕ × Kind)) → Current d j (st .described) o → Current d (suc j) (st .described) o
           go none (no-row k f) =
-              no-row (known-wider k (omega arith) (λ q id a b x. (let y : q ≡ j = omega arith in no-describer is (omega arith) (omega arith) (rw y at x))))
-              (λ i q. let y : j ≡ i = omega arith in rw (← y) (λ x. clash is (record { there = there-is; type = x }) (omega arith), λ x. clash is (record { there = there-is; type = x }) (omega arith)))
-          go (some (id, n)) (open-row q u l t k) = absurd (let z : ⊥ = omega arith in z)
+              no-row (known-wider k (omega arith) (λ q id a b x. (let y : q ≡ j = omega arith in no-describer is (omega arith) (omega arith) (omega arith) (rw y at x))))
+              (λ i q. let y : j ≡ i = omega arith in rw (← y) (not-followed is (omega arith) (omega arith) (omega arith)))
+          go (some (id, n, kind)) (open-row q head u l t k) = absurd (let z : ⊥ = omega arith in z)
 
       judge-ISD : Judged d j (Before d (suc j)) (checkISD st (place d j) (bytesOf d j))
       unfolding checkISD
       judge-ISD =
-          by-row (not (eqb (place d j) 0)) ISD-placed (known-clear w (there (there (here (is .type)))))
-          (λ h₄ c₅. by-row (not (goodLengthISD (bytesOf d j))) (tells bad-length row-5 (ISD-length d j w is)) c₅
+          by-row (not (eqb (place d j) 0)) ISD-placed (known-clear w (there (there (there (here (is .type))))))
+          (λ h₄ c₅. by-row (not (goodLengthISD (bytesOf d j))) (tells OfTriplet.bad-length row-5 (ISD-length d j w is)) c₅
           (λ h₅ c₆. by-row (not (goodISD (bytesOf d j))) (tells bad-parameter row-6 (ISD-parameters d j w is (ISD-forms d j w is h₅))) c₆
           (λ h₆ c₇. passed
-          (none-left (clear-more (clear-more (clear-more (clear-more c₇ (λ x. no-name (row-7 x))) no-8) no-9) (λ x. one-item (row-10 x)))
-          (λ i m k r. no-group (group-of r .1)))
+          (none-left (clear-more (clear-more (clear-more (clear-more c₇ (λ n x. no-name (row-7 x))) no-8) no-9) (λ n x. one-item (row-10 x)))
+          (λ i s m k r. no-group (group-of r .1)))
           (ISD-next (ISD-first (eqb-true (place d j) 0 (not-false (eqb (place d j) 0) h₄)))))))
         where
           no-name : NameTaken d j → ⊥
-          no-name (taken-by a h b) = no-describer is (omega arith) (omega arith) a
+          no-name (taken-by a h b) = no-describer is (omega arith) (omega arith) (omega arith) a
 
           one-item : TooManyItems d j → ⊥
           one-item (of-SDA i c l) = clash is i (omega arith)
 
-          no-group : Is d rlo j ⊎ Is d cpt j → ⊥
-          no-group (inl i) = clash is i (omega arith)
+          no-group : HasGroups d j ⊎ Is d cpt j → ⊥
+          no-group (inl i) = row-clash i is (omega arith) (omega arith)
           no-group (inr i) = clash is i (omega arith)
 
     -- by its construct type
@@ -364,7 +391,7 @@ module _ (d : List ℕ) (j : ℕ) (there-is : There d j) (w : NotTorn d j) where
     is-of {x} e =
         record { there = there-is; type = construct-type (byteOf d j 1) x (rw (byte-bytes d j w 1 (omega (arith, w .long))) at e) }
 
-    not-one : constructOf (bytesOf d j) ≡ none → OneOf (byteOf d j 1) (sda ∷ rlo ∷ isd ∷ cpt ∷ []) → ⊥
+    not-one : constructOf (bytesOf d j) ≡ none → OneOf (byteOf d j 1) (sda ∷ rlo ∷ gda ∷ isd ∷ cpt ∷ []) → ⊥
     not-one e o =
         let h = known-type o in
         let k : lookup (byteOf d j 1) constructs ≡ none = rw (byte-bytes d j w 1 (omega (arith, w .long))) at e in
@@ -377,7 +404,8 @@ module _ (d : List ℕ) (j : ℕ) (there-is : There d j) (w : NotTorn d j) where
     unfolding checkConstruct
     judge-construct none e = refused refl (unknown-construct (record { not-carried = not-one e })) (whole-clear w)
     judge-construct (some T.SDA) e = judge-SDA (is-of e)
-    judge-construct (some T.RLO) e = judge-RLO (is-of e)
+    judge-construct (some T.RLO) e = judge-row rowLayout (is-of e)
+    judge-construct (some T.GDA) e = judge-row groupArray (is-of e)
     judge-construct (some T.ISD) e = judge-ISD (is-of e)
     judge-construct (some T.CPT) e = judge-CPT (is-of e)
 

@@ -14,7 +14,7 @@ use Rattle.fdoca.specs.Basics.{elem}
 use Rattle.fdoca.specs.FieldType.{FieldType, typeOf, ruleOf}
 use Rattle.fdoca.specs.Triplet.{idOf, codeOf, parametersOf, extentsOf, subsetOf, versionOf}
 use Rattle.fdoca.specs.Check.{goodType, goodLengthSDA, goodSDA, goodLengthRow, goodLengthISD, goodISD}
-use Rattle.fdoca.specs.Reasons.{OneOf, here, there, LENGTH, byteOf, NotTorn, sda, rlo, isd, cpt, Is, Describes, extent, GoodParameters, Form, SDA, RLO, CPT, ISD, BadLength, BadParameter, own-id-0, parameters, extent-0, reserved, ISD-id, subset, version}
+use Rattle.fdoca.specs.Reasons.{OneOf, here, there, LENGTH, byteOf, NotTorn, sda, rlo, gda, isd, cpt, Is, HasGroups, Describes, extent, GoodParameters, Form, SDA, RLO, GDA, CPT, ISD, BadLength, BadParameter, own-id-0, parameters, extent-0, reserved, ISD-id, subset, version}
 use Rattle.fdoca.proofs.Tests.{and-left, and-right}
 use Rattle.fdoca.proofs.TripletBytes.{bytesOf, length-bytes, byte-bytes, byte-parameters, bias-bytes, mode-bytes, extents-from, extents-end, subset-bytes, version-bytes, version-left-off}
 use Rattle.fdoca.proofs.TypeRows.{elem-in, elem-out, good-parts, parts-good, rule-holds, table-holds, type-of-code}
@@ -27,13 +27,17 @@ pub record Tells (b : Bool) (P : Type 0) : Type 0 where
 pub clash : {d : List ℕ} {a b j : ℕ} → Is d a j → Is d b j → a ≢ b → ⊥
 clash x y n = n (sym (x .type) ∙ y .type)
 
--- what describes is an SDA or an RLO
-pub no-describer : {d : List ℕ} {c id j : ℕ} → Is d c j → c ≢ sda → c ≢ rlo → Describes d id j → ⊥
-no-describer {d} {c} {id} {j} i a b x = go (x .kind)
+pub row-clash : {d : List ℕ} {c j : ℕ} → HasGroups d j → Is d c j → c ≢ rlo → c ≢ gda → ⊥
+row-clash (inl k) i a b = clash i k a
+row-clash (inr k) i a b = clash i k b
+
+-- what describes is an SDA, an RLO or a GDA
+pub no-describer : {d : List ℕ} {c id j : ℕ} → Is d c j → c ≢ sda → c ≢ rlo → c ≢ gda → Describes d id j → ⊥
+no-describer {d} {c} {id} {j} i a b e x = go (x .kind)
   where
-    go : Is d sda j ⊎ Is d rlo j → ⊥
+    go : Is d sda j ⊎ HasGroups d j → ⊥
     go (inl k) = clash i k a
-    go (inr k) = clash i k b
+    go (inr k) = row-clash k i b e
 
 -- the four forms of an SDA's extents
 pub data Extents (d : List ℕ) (j : ℕ) : List ℕ → Type 0 where
@@ -67,26 +71,32 @@ module _ {d : List ℕ} {j : ℕ} where
 SDA-form : {c n : ℕ} → Form c n → c ≡ sda → OneOf n (12 ∷ 14 ∷ 16 ∷ 18 ∷ [])
 SDA-form (SDA o) e = o
 SDA-form (RLO k) e = absurd (let z : ⊥ = omega arith in z)
+SDA-form (GDA k) e = absurd (let z : ⊥ = omega arith in z)
 SDA-form (CPT k) e = absurd (let z : ⊥ = omega arith in z)
 SDA-form (ISD o) e = absurd (let z : ⊥ = omega arith in z)
 
 ISD-form : {c n : ℕ} → Form c n → c ≡ isd → OneOf n (5 ∷ 6 ∷ [])
 ISD-form (SDA o) e = absurd (let z : ⊥ = omega arith in z)
 ISD-form (RLO k) e = absurd (let z : ⊥ = omega arith in z)
+ISD-form (GDA k) e = absurd (let z : ⊥ = omega arith in z)
 ISD-form (CPT k) e = absurd (let z : ⊥ = omega arith in z)
 ISD-form (ISD o) e = o
 
-row-form-of : {c n : ℕ} → Form c n → OneOf c (rlo ∷ cpt ∷ []) → (k : ℕ) × (n ≡ 6 + 3 * k)
+row-form-of : {c n : ℕ} → Form c n → OneOf c (rlo ∷ gda ∷ cpt ∷ []) → (k : ℕ) × (n ≡ 6 + 3 * k)
 row-form-of (SDA o) (here e) = absurd (let z : ⊥ = omega arith in z)
 row-form-of (SDA o) (there (here e)) = absurd (let z : ⊥ = omega arith in z)
+row-form-of (SDA o) (there (there (here e))) = absurd (let z : ⊥ = omega arith in z)
 row-form-of (RLO k) o = (k, refl)
+row-form-of (GDA k) o = (k, refl)
 row-form-of (CPT k) o = (k, refl)
 row-form-of (ISD o) (here e) = absurd (let z : ⊥ = omega arith in z)
 row-form-of (ISD o) (there (here e)) = absurd (let z : ⊥ = omega arith in z)
+row-form-of (ISD o) (there (there (here e))) = absurd (let z : ⊥ = omega arith in z)
 
-row-has-form : {c n : ℕ} → OneOf c (rlo ∷ cpt ∷ []) → (k : ℕ) × (n ≡ 6 + 3 * k) → Form c n
+row-has-form : {c n : ℕ} → OneOf c (rlo ∷ gda ∷ cpt ∷ []) → (k : ℕ) × (n ≡ 6 + 3 * k) → Form c n
 row-has-form (here e) k = rw (e, k .1) (RLO (k .0))
-row-has-form (there (here e)) k = rw (e, k .1) (CPT (k .0))
+row-has-form (there (here e)) k = rw (e, k .1) (GDA (k .0))
+row-has-form (there (there (here e))) k = rw (e, k .1) (CPT (k .0))
 
 module _ (d : List ℕ) (j : ℕ) (w : NotTorn d j) where
   pub extents-are : OneOf (LENGTH d j) (12 ∷ 14 ∷ 16 ∷ 18 ∷ []) → Extents d j (extentsOf (bytesOf d j))
@@ -178,7 +188,7 @@ module _ (d : List ℕ) (j : ℕ) (w : NotTorn d j) where
       pub SDA-parameters : Tells (not (goodSDA (bytesOf d j))) (BadParameter d j)
       SDA-parameters = record { yes = SDA-bad _ _ _ refl refl refl; no = SDA-good _ _ _ refl refl refl }
 
-  -- LENGTH of an RLO or a CPT is 3 plus a positive multiple of 3
+  -- LENGTH of an RLO, a GDA or a CPT is 3 plus a positive multiple of 3
   by-three : (n : ℕ) → (leb 6 n && eqb (n % 3) 0) ≡ true → (k : ℕ) × (n ≡ 6 + 3 * k)
   by-three n h =
       let a : 6 ≤ n = leb-true 6 n (and-left (leb 6 n) (eqb (n % 3) 0) h) in
@@ -196,23 +206,23 @@ module _ (d : List ℕ) (j : ℕ) (w : NotTorn d j) where
   row-no-form : not (goodLengthRow (bytesOf d j)) ≡ true → (k : ℕ) → LENGTH d j ≢ 6 + 3 * k
   row-no-form h k e = true≢false (sym (by-three-back (LENGTH d j) k e) ∙ rw (length-bytes d j w) at (not-true (goodLengthRow (bytesOf d j)) h))
 
-  pub row-length : OneOf (byteOf d j 1) (rlo ∷ cpt ∷ []) → Tells (not (goodLengthRow (bytesOf d j))) (BadLength d j)
+  pub row-length : OneOf (byteOf d j 1) (rlo ∷ gda ∷ cpt ∷ []) → Tells (not (goodLengthRow (bytesOf d j))) (BadLength d j)
   row-length o = record { yes = λ h. record { no-form = λ f. (let k = row-form-of f o in row-no-form h (k .0) (k .1)) }; no = λ h b. b .no-form (row-has-form o (row-form h)) }
 
-  module _ (is : Is d rlo j) where
-    pub RLO-parameters : 6 ≤ LENGTH d j → Tells (eqb (idOf (bytesOf d j)) 0) (BadParameter d j)
-    RLO-parameters l =
+  module _ (is : HasGroups d j) where
+    pub row-parameters : 6 ≤ LENGTH d j → Tells (eqb (idOf (bytesOf d j)) 0) (BadParameter d j)
+    row-parameters l =
         rw (byte-bytes d j w 2 (omega arith))
         (record { yes = λ h. own-id-0 (record { kind = inr is; named = eqb-true (byteOf d j 2) 0 h }); no = λ h. good (eqb-false (byteOf d j 2) 0 h) })
       where
         good : (byteOf d j 2 ≢ 0) → BadParameter d j → ⊥
         good h (own-id-0 k) = h (k .named)
-        good h (parameters i k) = clash is i (omega arith)
-        good h (extent-0 k i l e) = clash is i (omega arith)
-        good h (reserved i k) = clash is i (omega arith)
-        good h (ISD-id i k) = clash is i (omega arith)
-        good h (subset i k) = clash is i (omega arith)
-        good h (version i k l) = clash is i (omega arith)
+        good h (parameters i k) = row-clash is i (omega arith) (omega arith)
+        good h (extent-0 k i l e) = row-clash is i (omega arith) (omega arith)
+        good h (reserved i k) = row-clash is i (omega arith) (omega arith)
+        good h (ISD-id i k) = row-clash is i (omega arith) (omega arith)
+        good h (subset i k) = row-clash is i (omega arith) (omega arith)
+        good h (version i k l) = row-clash is i (omega arith) (omega arith)
 
   module _ (is : Is d cpt j) where
     pub CPT-parameters : 6 ≤ LENGTH d j → Tells (not (eqb (idOf (bytesOf d j)) 0)) (BadParameter d j)
@@ -221,7 +231,7 @@ module _ (d : List ℕ) (j : ℕ) (w : NotTorn d j) where
         (record { yes = λ h. reserved is (eqb-false (byteOf d j 2) 0 (not-true (eqb (byteOf d j 2) 0) h)); no = λ h. good (eqb-true (byteOf d j 2) 0 (not-false (eqb (byteOf d j 2) 0) h)) })
       where
         good : (byteOf d j 2 ≡ 0) → BadParameter d j → ⊥
-        good h (own-id-0 k) = no-describer is (omega arith) (omega arith) k
+        good h (own-id-0 k) = no-describer is (omega arith) (omega arith) (omega arith) k
         good h (parameters i k) = clash is i (omega arith)
         good h (extent-0 k i l e) = clash is i (omega arith)
         good h (reserved i k) = k h
@@ -264,7 +274,7 @@ module _ (d : List ℕ) (j : ℕ) (w : NotTorn d j) where
       ISD-good false b c ea eb ec h x = true≢false h
       ISD-good true false c ea eb ec h x = true≢false h
       ISD-good true true false ea eb ec h x = true≢false h
-      ISD-good true true true ea eb ec h (own-id-0 k) = no-describer is (omega arith) (omega arith) k
+      ISD-good true true true ea eb ec h (own-id-0 k) = no-describer is (omega arith) (omega arith) (omega arith) k
       ISD-good true true true ea eb ec h (parameters i k) = clash is i (omega arith)
       ISD-good true true true ea eb ec h (extent-0 k i l e) = clash is i (omega arith)
       ISD-good true true true ea eb ec h (reserved i k) = clash is i (omega arith)

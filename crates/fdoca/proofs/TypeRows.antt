@@ -14,9 +14,9 @@ use borrow.Author.Tests.{ltb-true, leb-true, le-leb, lt-leb, eqb-true, eq-eqb}
 use Rattle.fdoca.specs.Basics.{if_then_else_, elem, lookup}
 use Rattle.fdoca.specs.FieldType.{FieldType, fixedBytes, variableBytes, terminatedBytes, shortBytes, integer, reversedInteger, packedDecimal, hexFloat, reversedFloat, binaryFloat, types, plain, typeOf, Size, bytes, digits, oneOf, sizeOf, Rule, allows, ruleOf, lengthThatHolds, sizeThatHolds}
 use Rattle.fdoca.specs.Triplet.{biasOf, modeOf, sizeIn}
-use Rattle.fdoca.specs.Check.{most, goodParameters, goodType}
+use Rattle.fdoca.specs.Check.{most, suitsType, goodParameters, goodType}
 use Rattle.fdoca.specs.Reasons as R
-use Rattle.fdoca.specs.Reasons.{OneOf, here, there, F, Allowed, fixed, variable, null-terminated, short, whole-number, reversed-whole-number, packed, hexadecimal-float, reversed-float, float, Means, hexadecimal-default, reversed-default, float-default, nullable-default, Hold, as-given, by-default}
+use Rattle.fdoca.specs.Reasons.{OneOf, here, there, F, Suits, Allowed, fixed, variable, null-terminated, short, whole-number, reversed-whole-number, packed, hexadecimal-float, reversed-float, float, Means, hexadecimal-default, reversed-default, float-default, nullable-default, Hold, as-given, by-default}
 use Rattle.fdoca.proofs.Table.{looked-up}
 use Rattle.fdoca.proofs.Tests.{and-left, and-right}
 
@@ -241,6 +241,18 @@ table-allows (float h l) = made binaryFloat refl (omega arith) l (omega arith) (
 table-allows (R.nullable k h) =
     let t = table-allows h in
     record { type = t .type; typed = with-indicator k (t .typed); bias-is = t .bias-is; mode-is = t .mode-is; size-is = t .size-is }
+
+-- Two bytes suit a code by 01's table where they do by the rule of its type,
+pub type-suits : (c a b : ℕ) → suitsType (typeOf c) a b ≡ true → Suits c a b
+type-suits c a b = go (typeOf c) refl
+  where
+    go : (o : Option FieldType) → typeOf c ≡ o → suitsType o a b ≡ true → Suits c a b
+    go none e h = absurd (true≢false (sym h))
+    go (some T) e h = record { bias = 0; mode = 0; allowed = rule-allows c 0 0 a b T e (omega arith) (omega arith) h }
+
+-- and there alone.
+pub suits-type : {c a b : ℕ} → Suits c a b → suitsType (typeOf c) a b ≡ true
+suits-type s = let t = table-allows (s .allowed) in rw (type-of-code (t .typed)) (t .size-is)
 
 -- A type's default: none; or a float's, of which 01's table allows no field length but 4, 8, 16.
 abbrev floats : List ℕ

@@ -8,7 +8,7 @@ use Rattle.fdoca.specs.Basics.{big}
 use Rattle.fdoca.specs.FieldType.{Layout, fixed, counted, terminated}
 use Rattle.fdoca.specs.Item.{Field, item, width, beforeZero, measure}
 use Rattle.fdoca.specs.Walk.{Note}
-use Rattle.fdoca.specs.Triplet.{Triplet, tripletsFrom}
+use Rattle.fdoca.specs.Triplet.{Triplet, Kind, tripletsFrom}
 use Rattle.fdoca.specs.Check as C
 use Rattle.fdoca.specs.Unfolding as U
 
@@ -32,18 +32,18 @@ pub record Stands (s : List ℕ) (n : Note) : Type 0 where
 abbrev pub tripletsAt : List ℕ → ℕ → List Triplet
 tripletsAt d p = tripletsFrom (length d - p) p (drop p d)
 
--- The check's view of what the unfolding keeps: extents for a field with extents, a count for a list.
+-- The check's view of what the unfolding keeps: type code and extents for a field with extents, a count for a list.
 abbrev pub entry : U.Described → C.Entry
-entry (U.array f xs) = C.array xs
+entry (U.array f xs) = C.array (f .code) xs
 entry (U.row l) = C.row (length l)
 
 abbrev pub entries : List (ℕ × U.Described) → List (ℕ × C.Entry)
 entries [] = []
 entries (d ∷ ds) = (d .0, entry (d .1)) ∷ entries ds
 
-abbrev pub rowCounted : Option (ℕ × List Field) → Option (ℕ × ℕ)
+abbrev pub rowCounted : Option (ℕ × List Field × Kind) → Option (ℕ × ℕ × Kind)
 rowCounted none = none
-rowCounted (some r) = some (r .0, length (r .1))
+rowCounted (some r) = some (r .0, length (r .1), r .2)
 
 abbrev pub state : U.Layouts → C.State
 state u = record { described = entries (u .described); current = rowCounted (u .current) }

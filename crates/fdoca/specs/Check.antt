@@ -1,13 +1,13 @@
--- The check of a descriptor (document 01, "Numbers a caller can meet"): the first reason to refuse it, or its item count.
+-- The check of a descriptor (document 01, "Numbers a caller can meet"; document 02, Q-4): the first reason to refuse it, or its item count.
 use Prim.Native.Nat.{ℕ, zero, suc, _+_, _*_, _%_}
-use mathlib.Core.Bool.{Bool, false, _&&_, not}
+use mathlib.Core.Bool.{Bool, true, false, _&&_, not}
 use mathlib.Core.List.{List, [], _∷_}
 use mathlib.Core.Option.{Option, none, some}
 use lib.Dec.{leb, ltb, eqb}
 use lib.ListN.{length, getD}
 use Rattle.fdoca.specs.Basics.{if_then_else_, elem, lookup, isSome, product, Result, refuse, ok, _>>=_, _>>_, reject, the}
-use Rattle.fdoca.specs.FieldType.{FieldType, Rule, allows, typeOf, ruleOf}
-use Rattle.fdoca.specs.Triplet.{Triplet, torn, triplet, triplets, Construct, SDA, RLO, ISD, CPT, constructOf, idOf, codeOf, parametersOf, modeOf, sizeIn, biasOf, extentsOf, Group, groupsOf, subsetOf, versionOf}
+use Rattle.fdoca.specs.FieldType.{FieldType, Rule, allows, replaces, suits, typeOf, ruleOf}
+use Rattle.fdoca.specs.Triplet.{Triplet, torn, triplet, triplets, Construct, SDA, RLO, GDA, ISD, CPT, Kind, rowLayout, groupArray, constructOf, idOf, codeOf, parametersOf, modeOf, sizeIn, biasOf, extentsOf, Group, taken, factor, groupsOf, subsetOf, versionOf}
 
 abbrev pub maxDescriptor : ℕ
 maxDescriptor = 4096
@@ -15,31 +15,45 @@ maxDescriptor = 4096
 abbrev pub maxItems : ℕ
 maxItems = 4096
 
--- What the check keeps of a described id: an SDA's extents, or an RLO's item count.
+-- What the check keeps of a described id: an SDA's type code and extents, or the item count of an RLO or a GDA.
 pub data Entry : Type 0 where
-  array : List ℕ → Entry
+  array : (code : ℕ) → List ℕ → Entry
   row : ℕ → Entry
 
 -- An SDA stands for as many items as the product of its extents.
 abbrev pub countOf : Entry → ℕ
-countOf (array xs) = product xs
+countOf (array code xs) = product xs
 countOf (row n) = n
 
--- How many items a group takes of an entry once. Elements taken 0 keeps it as it is; another number replaces the highest extent of an SDA
+-- How many items a group of an RLO takes of an entry once. Elements taken 0 keeps it as it is; another number replaces the highest extent of an SDA
 -- that has one.
 abbrev pub countTaken : ℕ → Entry → Option ℕ
 countTaken zero e = some (countOf e)
-countTaken (suc k) (array []) = none
-countTaken (suc k) (array (x ∷ xs)) = some (suc k * product xs)
+countTaken (suc k) (array code []) = none
+countTaken (suc k) (array code (x ∷ xs)) = some (suc k * product xs)
 countTaken (suc k) (row n) = none
 
--- The described ids, the last first, and the RLO that a CPT may continue: its id and its count so far.
+-- A length suits the type that a code stands for, or replaces nothing.
+abbrev pub suitsType : Option FieldType → (byte6 byte7 : ℕ) → Bool
+suitsType none byte6 byte7 = false
+suitsType (some T) byte6 byte7 = suits (ruleOf T) byte6 byte7
+
+unfoldable pub goodLength : (code byte6 byte7 : ℕ) → Bool
+goodLength code byte6 byte7 = if replaces byte6 byte7 then suitsType (typeOf code) byte6 byte7 else true
+
+-- A group of a GDA refers to an SDA without extents, and its length is good for that SDA's type (Q-4).
+abbrev pub fits : Group → Entry → Bool
+fits g (array code []) = goodLength code (g .byte1) (g .byte2)
+fits g (array code (x ∷ xs)) = false
+fits g (row n) = false
+
+-- The described ids, the last first, and the RLO or GDA that a CPT may continue: its id, its count so far, and its kind.
 pub record State : Type 0 where
   pub described : List (ℕ × Entry)
-  pub current : Option (ℕ × ℕ)
+  pub current : Option (ℕ × ℕ × Kind)
 
--- An RLO counts as described after its last CPT.
-abbrev pub closeRow : List (ℕ × Entry) → Option (ℕ × ℕ) → List (ℕ × Entry)
+-- An RLO or GDA counts as described after its last CPT.
+abbrev pub closeRow : List (ℕ × Entry) → Option (ℕ × ℕ × Kind) → List (ℕ × Entry)
 closeRow es none = es
 closeRow es (some r) = (r .0, row (r .1)) ∷ es
 
@@ -49,18 +63,28 @@ closed st = closeRow (st .described) (st .current)
 abbrev pub isDescribed : ℕ → List (ℕ × Entry) → Bool
 isDescribed i es = isSome (lookup i es)
 
--- One group, at its triplet's place p, of an RLO that counts n items so far, with the entry that it refers to.
-unfoldable pub addGroup : (p n : ℕ) → Group → Option Entry → Result ℕ
-addGroup p n g r = do
-  e ← the r 8 p
-  reject (eqb (g .factor) 0) 9 p
-  k ← the (countTaken (g .taken) e) 9 p
-  reject (ltb maxItems (n + g .factor * k)) 10 p
-  ok (n + g .factor * k)
+-- How many items a group adds, at its triplet's place p, with the entry that it refers to: in an RLO as many as it takes, repeated by the factor; in
+-- a GDA one.
+unfoldable pub countAdded : Kind → (p : ℕ) → Group → Entry → Result ℕ
+countAdded rowLayout p g e = do
+  reject (eqb (factor g) 0) 9 p
+  k ← the (countTaken (taken g) e) 9 p
+  ok (factor g * k)
+countAdded groupArray p g e = do
+  reject (not (fits g e)) 21 p
+  ok 1
 
-unfoldable pub addGroups : (p : ℕ) → List (ℕ × Entry) → (n : ℕ) → List Group → Result ℕ
-addGroups p es n [] = ok n
-addGroups p es n (g ∷ gs) = addGroup p n g (lookup (g .ref) es) >>= (λ m. addGroups p es m gs)
+-- One group of an RLO or GDA that counts n items so far.
+unfoldable pub addGroup : Kind → (p n : ℕ) → Group → Option Entry → Result ℕ
+addGroup kind p n g r = do
+  e ← the r 8 p
+  k ← countAdded kind p g e
+  reject (ltb maxItems (n + k)) 10 p
+  ok (n + k)
+
+unfoldable pub addGroups : Kind → (p : ℕ) → List (ℕ × Entry) → (n : ℕ) → List Group → Result ℕ
+addGroups kind p es n [] = ok n
+addGroups kind p es n (g ∷ gs) = addGroup kind p n g (lookup (g .ref) es) >>= (λ m. addGroups kind p es m gs)
 
 -- A mode or a bias indicator of 0 or 1 where the type has one, and zero elsewhere.
 abbrev pub most : Bool → ℕ
@@ -93,28 +117,29 @@ checkSDA es p t = do
   reject (not (goodSDA t)) 6 p
   reject (isDescribed (idOf t) es) 7 p
   reject (ltb maxItems (product (extentsOf t))) 10 p
-  ok (record { described = (idOf t, array (extentsOf t)) ∷ es; current = none })
+  ok (record { described = (idOf t, array (codeOf t) (extentsOf t)) ∷ es; current = none })
 
 -- LENGTH is 3 plus a positive multiple of 3.
 abbrev pub goodLengthRow : List ℕ → Bool
 goodLengthRow t = leb 6 (length t) && eqb (length t % 3) 0
 
-unfoldable pub checkRLO : List (ℕ × Entry) → (p : ℕ) → List ℕ → Result State
-checkRLO es p t = do
+-- LENGTH, names and count of a GDA are judged as for an RLO (Q-4).
+unfoldable pub checkRow : Kind → List (ℕ × Entry) → (p : ℕ) → List ℕ → Result State
+checkRow kind es p t = do
   reject (not (goodLengthRow t)) 5 p
   reject (eqb (idOf t) 0) 6 p
   reject (isDescribed (idOf t) es) 7 p
-  n ← addGroups p es 0 (groupsOf t)
-  ok (record { described = es; current = some (idOf t, n) })
+  n ← addGroups kind p es 0 (groupsOf t)
+  ok (record { described = es; current = some (idOf t, n, kind) })
 
--- A CPT continues the RLO right before it; its byte 2 is reserved.
+-- A CPT continues the RLO or GDA right before it; its byte 2 is reserved.
 unfoldable pub checkCPT : State → (p : ℕ) → List ℕ → Result State
 checkCPT st p t = do
   r ← the (st .current) 4 p
   reject (not (goodLengthRow t)) 5 p
   reject (not (eqb (idOf t) 0)) 6 p
-  n ← addGroups p (st .described) (r .1) (groupsOf t)
-  ok (record { described = st .described; current = some (r .0, n) })
+  n ← addGroups (r .2) p (st .described) (r .1) (groupsOf t)
+  ok (record { described = st .described; current = some (r .0, n, r .2) })
 
 -- An ISD is the first triplet.
 abbrev pub goodLengthISD : List ℕ → Bool
@@ -133,7 +158,8 @@ checkISD st p t = do
 unfoldable pub checkConstruct : Option Construct → State → (p : ℕ) → List ℕ → Result State
 checkConstruct none st p t = refuse 3 p
 checkConstruct (some SDA) st p t = checkSDA (closed st) p t
-checkConstruct (some RLO) st p t = checkRLO (closed st) p t
+checkConstruct (some RLO) st p t = checkRow rowLayout (closed st) p t
+checkConstruct (some GDA) st p t = checkRow groupArray (closed st) p t
 checkConstruct (some ISD) st p t = checkISD st p t
 checkConstruct (some CPT) st p t = checkCPT st p t
 
@@ -149,7 +175,7 @@ checkTriplets st (t ∷ ts) = checkTriplet st t >>= (λ u. checkTriplets u ts)
 abbrev pub begin : State
 begin = record { described = []; current = none }
 
--- The last SDA or RLO describes the block; 11 stands at the descriptor's length.
+-- The last SDA, RLO or GDA describes the block; 11 stands at the descriptor's length.
 abbrev pub lastCount : (size : ℕ) → List (ℕ × Entry) → Result ℕ
 lastCount size [] = refuse 11 size
 lastCount size (e ∷ es) = ok (countOf (e .1))

@@ -1,9 +1,9 @@
--- The field types (document 01, "Field types"; document 02, Q-1 and Q-2; 000, section 4.3.3) and the rule of each.
+-- The field types (document 01, "Field types"; document 02, Q-1, Q-2 and Q-4; 000, section 4.3.3) and the rule of each.
 use Prim.Native.Nat.{ℕ, _+_, _-_, _*_, _/_}
 use mathlib.Core.Bool.{Bool, true, false, _&&_}
 use mathlib.Core.List.{List, [], _∷_}
 use mathlib.Core.Option.{Option, none, some}
-use lib.Dec.{leb}
+use lib.Dec.{leb, ltb}
 use Rattle.fdoca.specs.Basics.{if_then_else_, elem, lookup}
 
 -- The types that are carried.
@@ -114,3 +114,16 @@ lengthThatHolds (some n) F = if elem F (4 ∷ 8 ∷ 16 ∷ []) then F else n
 abbrev pub sizeThatHolds : Rule → Size → Size
 sizeThatHolds r (bytes F) = bytes (lengthThatHolds (r .default) F)
 sizeThatHolds r (digits p fraction) = digits p fraction
+
+-- A field length that a group triplet gives, in two bytes (Q-4), replaces bytes 6 and 7 of the type parameters; "a parameter value of zero does not
+-- override any bytes" (000, section 4.3.1.4).
+abbrev pub replaces : (byte6 byte7 : ℕ) → Bool
+replaces byte6 byte7 = ltb 0 (byte6 * 256 + byte7)
+
+-- The replaced length must suit the type by 01's table, with no default put in.
+abbrev pub suits : Rule → (byte6 byte7 : ℕ) → Bool
+suits r byte6 byte7 = allows (r .sizes) (sizeOf (r .sizes) byte6 byte7)
+
+-- The size that holds for one item, `own` being that of its SDA.
+abbrev pub sizeReplaced : Rule → (own : Size) → (byte6 byte7 : ℕ) → Size
+sizeReplaced r own byte6 byte7 = if replaces byte6 byte7 then sizeOf (r .sizes) byte6 byte7 else own

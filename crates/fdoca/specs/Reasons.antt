@@ -1,4 +1,4 @@
--- Document 01's table "Numbers a caller can meet", with 6 as Q-2 leaves it and 20 by Q-1, row by row: for each number its column "When", said of a triplet, a group, an
+-- Document 01's table "Numbers a caller can meet", with 6 as Q-2 leaves it, 20 by Q-1, and group triplets and 21 by Q-4, row by row: for each number its column "When", said of a triplet, a group, an
 -- item or a call by itself, with its place and without regard to the other rows; then 01's order. Bytes are read at their places. The unfolding, a
 -- field's length in bytes, the split of bytes into halves and the standard's account of an item are taken from their own files; nothing is taken from the
 -- check, from measuring, or from the calls.
@@ -55,6 +55,9 @@ sda = 0x70
 abbrev pub rlo : ℕ
 rlo = 0x71
 
+abbrev pub gda : ℕ
+gda = 0x75
+
 abbrev pub isd : ℕ
 isd = 0x7E
 
@@ -65,14 +68,18 @@ pub record Is (d : List ℕ) (construct j : ℕ) : Type 0 where
   pub there : There d j
   pub type : byteOf d j 1 ≡ construct
 
--- An SDA or an RLO describes the id in byte 2.
+-- An RLO or a GDA (Q-4's group triplet): a triplet with groups, which CPTs may continue.
+abbrev pub HasGroups : List ℕ → (j : ℕ) → Type 0
+HasGroups d j = Is d rlo j ⊎ Is d gda j
+
+-- An SDA, an RLO or a GDA describes the id in byte 2.
 pub record Describes (d : List ℕ) (id j : ℕ) : Type 0 where
-  pub kind : Is d sda j ⊎ Is d rlo j
+  pub kind : Is d sda j ⊎ HasGroups d j
   pub named : byteOf d j 2 ≡ id
 
--- Triplet j belongs to the RLO r: it is that RLO, or stands behind it with CPTs alone between.
+-- Triplet j belongs to the row of r, an RLO or a GDA: it is r, or stands behind it with CPTs alone between.
 pub record InRow (d : List ℕ) (r j : ℕ) : Type 0 where
-  pub head : Is d rlo r
+  pub head : HasGroups d r
   pub behind : r ≤ j
   pub continued : (i : ℕ) → r < i → i ≤ j → Is d cpt i
 
@@ -83,13 +90,14 @@ HasGroup d j k = 6 + 3 * k ≤ LENGTH d j
 abbrev pub reference : List ℕ → (j k : ℕ) → ℕ
 reference d j k = byteOf d j (3 + 3 * k)
 
+-- Of a group of an RLO; of a GDA these two are the bytes of a field length.
 abbrev pub taken : List ℕ → (j k : ℕ) → ℕ
 taken d j k = byteOf d j (4 + 3 * k)
 
 abbrev pub factor : List ℕ → (j k : ℕ) → ℕ
 factor d j k = byteOf d j (5 + 3 * k)
 
--- A row of the RLO r refers to triplet q by an id. An RLO counts as described after its last CPT, so q stands before the RLO.
+-- The row of r refers to triplet q by an id. An RLO or GDA counts as described after its last CPT, so q stands before it.
 pub record Refers (d : List ℕ) (r id q : ℕ) : Type 0 where
   pub earlier : q < r
   pub describes : Describes d id q
@@ -105,22 +113,23 @@ pub data Lower (d : List ℕ) (q : ℕ) : ℕ → Type 0 where
   three : LENGTH d q ≡ 18 → Lower d q (extent d q 1 * extent d q 2)
 
 mutual
-  -- The SDA or RLO q stands for n items: an SDA for the product of its extents, or one without; an RLO for those of all its groups.
+  -- The SDA, RLO or GDA q stands for n items: an SDA for the product of its extents, or one without; an RLO or GDA for those of all its groups.
   pub data Counts (d : List ℕ) : (q n : ℕ) → Type 0 where
     single : {q : ℕ} → Is d sda q → LENGTH d q ≡ 12 → Counts d q 1
     array : {q l : ℕ} → Is d sda q → Lower d q l → Counts d q (extent d q 0 * l)
     row : {q j k n : ℕ} → UpTo d q j k n → LENGTH d j ≡ 3 + 3 * k → (Is d cpt (suc j) → ⊥) → Counts d q n
 
-  -- Group k of triplet j adds n items to the row of the RLO r. Elements taken 0 keeps the lower triplet as it is; another number replaces the highest
-  -- extent of an SDA.
+  -- Group k of triplet j adds n items to the row of r. In an RLO, elements taken 0 keeps the lower triplet as it is; another number replaces the
+  -- highest extent of an SDA. In a GDA a group is one item.
   pub data Adds (d : List ℕ) : (r j k n : ℕ) → Type 0 where
-    kept : {r j k q n : ℕ} → Refers d r (reference d j k) q → taken d j k ≡ 0 → Counts d q n → Adds d r j k (factor d j k * n)
-    replaced : {r j k q l : ℕ} → Refers d r (reference d j k) q → 0 < taken d j k → Is d sda q → Lower d q l
+    kept : {r j k q n : ℕ} → Is d rlo r → Refers d r (reference d j k) q → taken d j k ≡ 0 → Counts d q n → Adds d r j k (factor d j k * n)
+    replaced : {r j k q l : ℕ} → Is d rlo r → Refers d r (reference d j k) q → 0 < taken d j k → Is d sda q → Lower d q l
         → Adds d r j k (factor d j k * (taken d j k * l))
+    column : {r j k : ℕ} → Is d gda r → Adds d r j k 1
 
-  -- The RLO r counts n items before group k of its triplet j.
+  -- The row of r counts n items before group k of its triplet j.
   pub data UpTo (d : List ℕ) : (r j k n : ℕ) → Type 0 where
-    start : {r : ℕ} → Is d rlo r → UpTo d r r 0 0
+    start : {r : ℕ} → HasGroups d r → UpTo d r r 0 0
     group : {r j k n m : ℕ} → UpTo d r j k n → HasGroup d j k → Adds d r j k m → UpTo d r j (suc k) (n + m)
     continued : {r j k n : ℕ} → UpTo d r j k n → LENGTH d j ≡ 3 + 3 * k → Is d cpt (suc j) → UpTo d r (suc j) 0 n
 
@@ -141,6 +150,12 @@ pub data Allowed : (code bias mode a b : ℕ) → Type 0 where
   reversed-float : {bias a b : ℕ} → OneOf (F a b) (4 ∷ 8 ∷ []) → bias ≤ 1 → Allowed 0x47 bias 0 a b
   float : {bias a b : ℕ} → OneOf (F a b) (4 ∷ 8 ∷ []) → bias ≤ 1 → Allowed 0x48 bias 0 a b
   nullable : {code bias mode a b : ℕ} → code < 0x80 → Allowed code bias mode a b → Allowed (code + 0x80) bias mode a b
+
+-- Q-4: two bytes suit a type code by 01's table, with no default put in: some bias indicator and mode stand beside them there.
+pub record Suits (code a b : ℕ) : Type 0 where
+  pub bias : ℕ
+  pub mode : ℕ
+  pub allowed : Allowed code bias mode a b
 
 -- Q-2: what an F that is replaced means. For X'40' an F other than 4, 8, 16 means 8; for X'47' and X'48' an F other than 4, 8 or 16 means 4.
 pub data Means : (code a b n : ℕ) → Type 0 where
@@ -168,25 +183,26 @@ pub data Torn (d : List ℕ) (j : ℕ) : Type 0 where
 
 -- 3, Unknown construct: type not carried.
 pub record UnknownConstruct (d : List ℕ) (j : ℕ) : Type 0 where
-  pub not-carried : OneOf (byteOf d j 1) (sda ∷ rlo ∷ isd ∷ cpt ∷ []) → ⊥
+  pub not-carried : OneOf (byteOf d j 1) (sda ∷ rlo ∷ gda ∷ isd ∷ cpt ∷ []) → ⊥
 
--- 4, Out of sequence: CPT not after RLO or CPT; ISD not first.
+-- 4, Out of sequence: CPT not after RLO, GDA or CPT; ISD not first.
 pub data OutOfSequence (d : List ℕ) (j : ℕ) : Type 0 where
   CPT-first : Is d cpt j → j ≡ 0 → OutOfSequence d j
-  CPT-after : {i : ℕ} → Is d cpt j → j ≡ suc i → byteOf d i 1 ≢ rlo → byteOf d i 1 ≢ cpt → OutOfSequence d j
+  CPT-after : {i : ℕ} → Is d cpt j → j ≡ suc i → (OneOf (byteOf d i 1) (rlo ∷ gda ∷ cpt ∷ []) → ⊥) → OutOfSequence d j
   ISD-later : Is d isd j → j ≢ 0 → OutOfSequence d j
 
 -- 5, Bad length: LENGTH against the forms, which are 12 plus at most three extents; 3 plus a positive multiple of 3; 5 or 6.
 pub data Form : (construct size : ℕ) → Type 0 where
   SDA : {n : ℕ} → OneOf n (12 ∷ 14 ∷ 16 ∷ 18 ∷ []) → Form sda n
   RLO : (k : ℕ) → Form rlo (6 + 3 * k)
+  GDA : (k : ℕ) → Form gda (6 + 3 * k)
   CPT : (k : ℕ) → Form cpt (6 + 3 * k)
   ISD : {n : ℕ} → OneOf n (5 ∷ 6 ∷ []) → Form isd n
 
 pub record BadLength (d : List ℕ) (j : ℕ) : Type 0 where
   pub no-form : Form (byteOf d j 1) (LENGTH d j) → ⊥
 
--- 6, Bad parameter: an SDA's or RLO's own id 0, type without rule, parameters, extent 0, CPT or ISD contents.
+-- 6, Bad parameter: an SDA's, RLO's or GDA's own id 0, type without rule, parameters, extent 0, CPT or ISD contents.
 pub data BadParameter (d : List ℕ) (j : ℕ) : Type 0 where
   own-id-0 : Describes d 0 j → BadParameter d j
   parameters : Is d sda j → (GoodParameters d j → ⊥) → BadParameter d j
@@ -204,32 +220,44 @@ pub data NameTaken (d : List ℕ) (j : ℕ) : Type 0 where
 pub data MissingReference (d : List ℕ) (j k : ℕ) : Type 0 where
   missing : {r : ℕ} → InRow d r j → HasGroup d j k → ((q : ℕ) → Refers d r (reference d j k) q → ⊥) → MissingReference d j k
 
--- 9, Not carried: repetition 0; elements taken above 0 over an RLO or an SDA without extents.
+-- 9, Not carried: in an RLO repetition 0; elements taken above 0 over an RLO, a GDA or an SDA without extents.
 pub data NotCarried (d : List ℕ) (j k : ℕ) : Type 0 where
-  repetition-0 : {r : ℕ} → InRow d r j → HasGroup d j k → factor d j k ≡ 0 → NotCarried d j k
-  over-RLO : {r q : ℕ} → InRow d r j → HasGroup d j k → 0 < taken d j k → Refers d r (reference d j k) q → Is d rlo q → NotCarried d j k
-  over-single : {r q : ℕ} → InRow d r j → HasGroup d j k → 0 < taken d j k → Refers d r (reference d j k) q → Is d sda q → LENGTH d q ≡ 12
+  repetition-0 : {r : ℕ} → InRow d r j → Is d rlo r → HasGroup d j k → factor d j k ≡ 0 → NotCarried d j k
+  over-row : {r q : ℕ} → InRow d r j → Is d rlo r → HasGroup d j k → 0 < taken d j k → Refers d r (reference d j k) q → HasGroups d q
       → NotCarried d j k
+  over-single : {r q : ℕ} → InRow d r j → Is d rlo r → HasGroup d j k → 0 < taken d j k → Refers d r (reference d j k) q → Is d sda q
+      → LENGTH d q ≡ 12 → NotCarried d j k
 
--- 10, Too many items: the SDA's count, or the RLO's count up to this group, over 4,096.
+-- 21, Column misfit (Q-4): in a GDA the SDA has extents, the id is no SDA's, or the length doesn't suit. A length of zero replaces nothing (000, section
+-- 4.3.1.4).
+pub data ColumnMisfit (d : List ℕ) (j k : ℕ) : Type 0 where
+  no-SDA : {r q : ℕ} → InRow d r j → Is d gda r → HasGroup d j k → Refers d r (reference d j k) q → (Is d sda q → ⊥) → ColumnMisfit d j k
+  has-extents : {r q : ℕ} → InRow d r j → Is d gda r → HasGroup d j k → Refers d r (reference d j k) q → LENGTH d q ≢ 12 → ColumnMisfit d j k
+  bad-length : {r q : ℕ} → InRow d r j → Is d gda r → HasGroup d j k → Refers d r (reference d j k) q
+      → 0 < F (byteOf d j (4 + 3 * k)) (byteOf d j (5 + 3 * k))
+      → (Suits (byteOf d q 3) (byteOf d j (4 + 3 * k)) (byteOf d j (5 + 3 * k)) → ⊥) → ColumnMisfit d j k
+
+-- 10, Too many items: the SDA's count, or the RLO's or GDA's count up to this group, over 4,096.
 pub data TooManyItems (d : List ℕ) (j : ℕ) : Type 0 where
   of-SDA : {n : ℕ} → Is d sda j → Counts d j n → 4096 < n → TooManyItems d j
 
 pub data TooManyUpTo (d : List ℕ) (j k : ℕ) : Type 0 where
   of-row : {r n : ℕ} → UpTo d r j (suc k) n → 4096 < n → TooManyUpTo d j k
 
--- The reasons of triplet j: 8, 9 and 10 belong to its group k, counted from 1, the others to the triplet itself, counted 0.
-pub data OfTriplet (d : List ℕ) (j : ℕ) : (group number : ℕ) → Type 0 where
-  torn : Torn d j → OfTriplet d j 0 2
-  unknown-construct : UnknownConstruct d j → OfTriplet d j 0 3
-  out-of-sequence : OutOfSequence d j → OfTriplet d j 0 4
-  bad-length : BadLength d j → OfTriplet d j 0 5
-  bad-parameter : BadParameter d j → OfTriplet d j 0 6
-  name-taken : NameTaken d j → OfTriplet d j 0 7
-  too-many-items : TooManyItems d j → OfTriplet d j 0 10
-  missing-reference : {k : ℕ} → MissingReference d j k → OfTriplet d j (suc k) 8
-  not-carried : {k : ℕ} → NotCarried d j k → OfTriplet d j (suc k) 9
-  too-many-up-to : {k : ℕ} → TooManyUpTo d j k → OfTriplet d j (suc k) 10
+-- The reasons of triplet j: 8, 9, 21 and 10 belong to its group k, counted from 1, the others to the triplet itself, counted 0. Steps are in the order of
+-- the numbers, but that 21 has the step of 9: a group's turn has 8, then 9 in an RLO or 21 in a GDA, then 10.
+pub data OfTriplet (d : List ℕ) (j : ℕ) : (group step number : ℕ) → Type 0 where
+  torn : Torn d j → OfTriplet d j 0 2 2
+  unknown-construct : UnknownConstruct d j → OfTriplet d j 0 3 3
+  out-of-sequence : OutOfSequence d j → OfTriplet d j 0 4 4
+  bad-length : BadLength d j → OfTriplet d j 0 5 5
+  bad-parameter : BadParameter d j → OfTriplet d j 0 6 6
+  name-taken : NameTaken d j → OfTriplet d j 0 7 7
+  too-many-items : TooManyItems d j → OfTriplet d j 0 10 10
+  missing-reference : {k : ℕ} → MissingReference d j k → OfTriplet d j (suc k) 8 8
+  not-carried : {k : ℕ} → NotCarried d j k → OfTriplet d j (suc k) 9 9
+  column-misfit : {k : ℕ} → ColumnMisfit d j k → OfTriplet d j (suc k) 9 21
+  too-many-up-to : {k : ℕ} → TooManyUpTo d j k → OfTriplet d j (suc k) 10 10
 
 -- THE ROWS that speak of an item of the field f, whose bytes and all behind them are s. Each belongs to a step of measuring: 0 null indicator, 1 L
 -- bytes, 2 L's range, 3 body.
@@ -304,14 +332,14 @@ pub data OfItems (fs : List Field) (s : List ℕ) : (turn : List ℕ) → (numbe
   surplus : {xs : List Parts} {bytes : List ℕ} (rest : List ℕ) → Block fs xs bytes → s ≡ bytes ++ rest → 0 < length rest
       → OfItems fs s (6 ∷ []) 16 (length bytes)
 
--- THE CALLS: each reason with its turn in 01's order, its number and its place. The order is 1; triplets left to right, each by rising number, with 8, 9,
--- 10 taken group by group; 11; 12 (list call only); then items in order, each by its steps; 16; 17; 18; 20.
+-- THE CALLS: each reason with its turn in 01's order, its number and its place. The order is 1; triplets left to right, each by rising number, with 8, 9 or
+-- 21, 10 taken group by group; 11; 12 (list call only); then items in order, each by its steps; 16; 17; 18; 20.
 pub data OfDescriptor (d : List ℕ) : (turn : List ℕ) → (number place : ℕ) → Type 0 where
   -- 1, Oversize: the descriptor over its limit
   oversize : 4096 < length d → OfDescriptor d (1 ∷ []) 1 0
-  -- 2 to 10, at the triplet
-  triplet : {j g m : ℕ} → There d j → OfTriplet d j g m → OfDescriptor d (2 ∷ j ∷ g ∷ m ∷ []) m (place d j)
-  -- 11, Nothing described: no SDA or RLO
+  -- 2 to 10 and 21, at the triplet
+  triplet : {j g step m : ℕ} → There d j → OfTriplet d j g step m → OfDescriptor d (2 ∷ j ∷ g ∷ step ∷ []) m (place d j)
+  -- 11, Nothing described: no SDA, RLO or GDA
   nothing-described : ((id j : ℕ) → Describes d id j → ⊥) → OfDescriptor d (3 ∷ []) 11 (length d)
 
 -- A descriptor with data: the fields are those of its unfolding.

@@ -1,4 +1,4 @@
--- A descriptor's triplets and their parts (document 01, "Triplets"; 000, section 4.3).
+-- A descriptor's triplets and their parts (document 01, "Triplets"; document 02, Q-4; 000, section 4.3).
 use Prim.Native.Nat.{ℕ, zero, suc, _+_}
 use mathlib.Core.Bool.{_||_}
 use mathlib.Core.List.{List, [], _∷_}
@@ -24,12 +24,16 @@ tripletsFrom (suc fuel) p (n ∷ s) =
 abbrev pub triplets : List ℕ → List Triplet
 triplets d = tripletsFrom (length d) 0 d
 
--- The construct types that are carried.
+-- The construct types that are carried. GDA, the Group Data Array, is Q-4's group triplet.
 pub data Construct : Type 0 where
-  SDA RLO ISD CPT : Construct
+  SDA RLO GDA ISD CPT : Construct
 
 abbrev pub constructs : List (ℕ × Construct)
-constructs = (0x70, SDA) ∷ (0x71, RLO) ∷ (0x7E, ISD) ∷ (0x7F, CPT) ∷ []
+constructs = (0x70, SDA) ∷ (0x71, RLO) ∷ (0x75, GDA) ∷ (0x7E, ISD) ∷ (0x7F, CPT) ∷ []
+
+-- The kinds of triplets with groups, which a CPT may continue: RLO and GDA.
+pub data Kind : Type 0 where
+  rowLayout groupArray : Kind
 
 -- The parts of a triplet's bytes.
 abbrev pub constructOf : List ℕ → Option Construct
@@ -65,17 +69,24 @@ modeOf ps = getD ps 5 0
 abbrev pub sizeIn : Rule → List ℕ → Size
 sizeIn r ps = sizeThatHolds r (sizeOf (r .sizes) (getD ps 6 0) (getD ps 7 0))
 
--- A group of an RLO or CPT: id referred to, elements taken, repetition factor.
+-- The three bytes of a group: the id referred to, and two more, which are in an RLO the elements taken and the repetition factor, in a GDA the field
+-- length.
 pub record Group : Type 0 where
   pub ref : ℕ
-  pub taken : ℕ
-  pub factor : ℕ
+  pub byte1 : ℕ
+  pub byte2 : ℕ
+
+abbrev pub taken : Group → ℕ
+taken g = g .byte1
+
+abbrev pub factor : Group → ℕ
+factor g = g .byte2
 
 abbrev pub threes : List ℕ → List Group
 threes [] = []
 threes (a ∷ []) = []
 threes (a ∷ b ∷ []) = []
-threes (a ∷ b ∷ c ∷ s) = record { ref = a; taken = b; factor = c } ∷ threes s
+threes (a ∷ b ∷ c ∷ s) = record { ref = a; byte1 = b; byte2 = c } ∷ threes s
 
 abbrev pub groupsOf : List ℕ → List Group
 groupsOf t = threes (drop 3 t)

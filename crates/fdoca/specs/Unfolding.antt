@@ -1,15 +1,15 @@
--- The unfolding of an accepted descriptor (document 01, "Unfolding and walk"): the list of its fields, made from its bytes.
+-- The unfolding of an accepted descriptor (document 01, "Unfolding and walk"; document 02, Q-4): the list of its fields, made from its bytes.
 -- The cases marked * occur in no accepted descriptor: theorem `no-star` of proofs/Stars.
 use Prim.Native.Nat.{ℕ, zero, suc, _*_}
 use mathlib.Core.List.{List, [], _∷_, _++_}
 use mathlib.Core.Option.{Option, none, some}
 use lib.ListN.{replicate}
 use Rattle.fdoca.specs.Basics.{lookup, product, repeat}
-use Rattle.fdoca.specs.FieldType.{FieldType, typeOf, ruleOf}
-use Rattle.fdoca.specs.Triplet.{Triplet, torn, triplet, triplets, Construct, SDA, RLO, ISD, CPT, constructOf, idOf, codeOf, parametersOf, modeOf, sizeIn, extentsOf, Group, groupsOf}
+use Rattle.fdoca.specs.FieldType.{FieldType, typeOf, ruleOf, sizeReplaced}
+use Rattle.fdoca.specs.Triplet.{Triplet, torn, triplet, triplets, Construct, SDA, RLO, GDA, ISD, CPT, Kind, rowLayout, groupArray, constructOf, idOf, codeOf, parametersOf, modeOf, sizeIn, extentsOf, Group, taken, factor, groupsOf}
 use Rattle.fdoca.specs.Item.{Field}
 
--- What an id describes: an SDA's field and its extents, or an RLO's list.
+-- What an id describes: an SDA's field and its extents, or the list of an RLO or a GDA.
 pub data Described : Type 0 where
   array : Field → List ℕ → Described
   row : List Field → Described
@@ -19,23 +19,23 @@ abbrev pub fieldsOf : Described → List Field
 fieldsOf (array f xs) = replicate (product xs) f
 fieldsOf (row l) = l
 
--- The list that a group adds once: elements taken above 0 stands for the SDA's highest extent.
+-- The list that a group of an RLO adds once: elements taken above 0 stands for the SDA's highest extent.
 abbrev pub fieldsTaken : ℕ → Described → List Field
 fieldsTaken zero d = fieldsOf d
 fieldsTaken (suc k) (array f (x ∷ xs)) = replicate (suc k * product xs) f
 fieldsTaken (suc k) (array f []) = f ∷ []  -- *
 fieldsTaken (suc k) (row l) = l  -- *
 
--- The described ids, the last first, and the RLO that a CPT may continue, with its list so far.
+-- The described ids, the last first, and the RLO or GDA that a CPT may continue: its id, its list so far, and its kind.
 pub record Layouts : Type 0 where
   pub described : List (ℕ × Described)
-  pub current : Option (ℕ × List Field)
+  pub current : Option (ℕ × List Field × Kind)
 
-abbrev pub closeRow : List (ℕ × Described) → Option (ℕ × List Field) → List (ℕ × Described)
+abbrev pub closeRow : List (ℕ × Described) → Option (ℕ × List Field × Kind) → List (ℕ × Described)
 closeRow ds none = ds
 closeRow ds (some r) = (r .0, row (r .1)) ∷ ds
 
--- An RLO counts as described after its last CPT.
+-- An RLO or GDA counts as described after its last CPT.
 abbrev pub closed : Layouts → List (ℕ × Described)
 closed st = closeRow (st .described) (st .current)
 
@@ -43,14 +43,29 @@ abbrev pub fieldsReferred : ℕ → Option Described → List Field
 fieldsReferred k none = []  -- *
 fieldsReferred k (some d) = fieldsTaken k d
 
--- A group's list: that of the triplet referred to, as often as the factor.
-abbrev pub groupFields : List (ℕ × Described) → Group → List Field
-groupFields ds g = repeat (g .factor) (fieldsReferred (g .taken) (lookup (g .ref) ds))
+-- An SDA's field, with the size that holds where a group of a GDA gives the length.
+abbrev pub column : (byte6 byte7 : ℕ) → Field → Field
+column byte6 byte7 f =
+    record { id = f .id; code = f .code; type = f .type; mode = f .mode; size = sizeReplaced (ruleOf (f .type)) (f .size) byte6 byte7 }
+
+abbrev pub columnReferred : Group → Option Described → List Field
+columnReferred g (some (array f [])) = column (g .byte1) (g .byte2) f ∷ []
+columnReferred g (some (array f (x ∷ xs))) = []  -- *
+columnReferred g (some (row l)) = []  -- *
+columnReferred g none = []  -- *
+
+-- A group's list: in an RLO that of the triplet referred to, as often as the factor; in a GDA one field.
+abbrev pub fieldsAdded : Kind → Group → Option Described → List Field
+fieldsAdded rowLayout g D = repeat (factor g) (fieldsReferred (taken g) D)
+fieldsAdded groupArray g D = columnReferred g D
+
+abbrev pub groupFields : Kind → List (ℕ × Described) → Group → List Field
+groupFields kind ds g = fieldsAdded kind g (lookup (g .ref) ds)
 
 -- A list, with those of groups added to it.
-unfoldable pub addFields : List (ℕ × Described) → List Field → List Group → List Field
-addFields ds l [] = l
-addFields ds l (g ∷ gs) = addFields ds (l ++ groupFields ds g) gs
+unfoldable pub addFields : Kind → List (ℕ × Described) → List Field → List Group → List Field
+addFields kind ds l [] = l
+addFields kind ds l (g ∷ gs) = addFields kind ds (l ++ groupFields kind ds g) gs
 
 abbrev pub fieldOf : FieldType → List ℕ → Field
 fieldOf T t =
@@ -60,18 +75,20 @@ unfoldable pub unfoldSDA : Option FieldType → Layouts → List ℕ → Layouts
 unfoldSDA none st t = st  -- *
 unfoldSDA (some T) st t = record { described = (idOf t, array (fieldOf T t) (extentsOf t)) ∷ closed st; current = none }
 
--- An RLO's list starts empty.
-unfoldable pub unfoldRLO : Layouts → List ℕ → Layouts
-unfoldRLO st t = record { described = closed st; current = some (idOf t, addFields (closed st) [] (groupsOf t)) }
+-- The list of an RLO or a GDA starts empty.
+unfoldable pub unfoldRow : Kind → Layouts → List ℕ → Layouts
+unfoldRow kind st t = record { described = closed st; current = some (idOf t, addFields kind (closed st) [] (groupsOf t), kind) }
 
-unfoldable pub unfoldCPT : Option (ℕ × List Field) → Layouts → List ℕ → Layouts
+unfoldable pub unfoldCPT : Option (ℕ × List Field × Kind) → Layouts → List ℕ → Layouts
 unfoldCPT none st t = st  -- *
-unfoldCPT (some r) st t = record { described = st .described; current = some (r .0, addFields (st .described) (r .1) (groupsOf t)) }
+unfoldCPT (some r) st t =
+    record { described = st .described; current = some (r .0, addFields (r .2) (st .described) (r .1) (groupsOf t), r .2) }
 
 unfoldable pub unfoldConstruct : Option Construct → Layouts → List ℕ → Layouts
 unfoldConstruct none st t = st  -- *
 unfoldConstruct (some SDA) st t = unfoldSDA (typeOf (codeOf t)) st t
-unfoldConstruct (some RLO) st t = unfoldRLO st t
+unfoldConstruct (some RLO) st t = unfoldRow rowLayout st t
+unfoldConstruct (some GDA) st t = unfoldRow groupArray st t
 unfoldConstruct (some ISD) st t = st
 unfoldConstruct (some CPT) st t = unfoldCPT (st .current) st t
 
@@ -86,7 +103,7 @@ unfoldTriplets st (t ∷ ts) = unfoldTriplets (unfoldTriplet st t) ts
 abbrev pub start : Layouts
 start = record { described = []; current = none }
 
--- The last SDA's or RLO's list is the unfolding.
+-- The last SDA's, RLO's or GDA's list is the unfolding.
 abbrev pub lastFields : List (ℕ × Described) → List Field
 lastFields [] = []  -- *
 lastFields (d ∷ ds) = fieldsOf (d .1)

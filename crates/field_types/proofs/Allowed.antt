@@ -1,4 +1,5 @@
--- The parameters that a type allows, by the numbers of its rule, the size that holds, and the ways through `shape_of`.
+-- The parameters that a type allows, by the numbers of its rule, the size that holds, and the ways through `shape_of`, `layout_of` and
+-- `good_length`.
 -- Assumes nothing.
 use mathlib.Core.Path.{_≡_, refl, sym, _∙_, ap}
 use Prim.Native.Nat.{ℕ, _+_, _*_, _/_, _%_, _<_, _≤_, zero-le}
@@ -8,16 +9,16 @@ use mathlib.Core.List.{List, [], _∷_}
 use mathlib.Core.Option.{Option, none, some}
 use lib.Dec.{leb, ltb, eqb, lit≤}
 use lib.ListN.{length, getD}
-use borrow.Author.Tests.{le-ltb, le-leb, lt-leb, eq-eqb, ne-eqb}
+use borrow.Author.Tests.{lt-ltb, le-ltb, le-leb, lt-leb, eq-eqb, ne-eqb}
 use Rattle.fdoca.specs.Basics.{if_then_else_, elem, big}
-use Rattle.fdoca.specs.FieldType.{FieldType, fixedBytes, variableBytes, terminatedBytes, shortBytes, integer, reversedInteger, packedDecimal, hexFloat, reversedFloat, binaryFloat, plain, typeOf, Layout, Size, bytes, Sizes, upTo, oneOf, digitsUpTo, sizeOf, allows, ruleOf, lengthThatHolds, sizeThatHolds}
+use Rattle.fdoca.specs.FieldType.{FieldType, fixedBytes, variableBytes, terminatedBytes, shortBytes, integer, reversedInteger, packedDecimal, hexFloat, reversedFloat, binaryFloat, typeOf, Layout, Size, bytes, Sizes, upTo, oneOf, digitsUpTo, sizeOf, allows, ruleOf, lengthThatHolds, sizeThatHolds, suits}
 use Rattle.fdoca.specs.FieldType as definition
 use Rattle.fdoca.specs.Triplet.{biasOf, modeOf, sizeIn}
-use Rattle.fdoca.specs.Check.{most, goodParameters, goodType}
+use Rattle.fdoca.specs.Check.{most, goodParameters, goodType, suitsType, goodLength}
 use Rattle.fdoca.proofs.Tests.{by-test, by-lt}
 use Rattle.field_types.specs.declared.Rule.{Rule}
 use Rattle.field_types.specs.declared.Shape.{Shape}
-use Rattle.field_types.specs.Rows.{topOf, sizesOf, mostDigits, defaultNumber, noSize, sizeAt, formOf, inNumbers, ruleFor, encoded, ruleAt}
+use Rattle.field_types.specs.Rows.{topOf, sizesOf, mostDigits, defaultNumber, noSize, sizeAt, formOf, inNumbers, ruleFor, encoded}
 use Rattle.field_types.specs.Parameters.{unusedZero, lengthAllowed, digitsAllowed, sizeAllowed, ruleAllows, sizeHeld, goodEight, layoutNumber, sizeNumber, shapeOf, noShape, shapeIf}
 use Rattle.field_types.proofs.Rows.{prefix-below-4}
 use Rattle.numbers.proofs.Pairs.{two-at}
@@ -141,16 +142,20 @@ module _ (r : definition.Rule) (a b : ℕ) (low : b < 256) (h : Few (r .sizes) (
 abbrev allowed : definition.Rule → (bias mode : ℕ) → Size → Bool
 allowed r bias mode size = leb bias (most (r .hasBias)) && (leb mode (most (r .hasMode)) && allows (r .sizes) size)
 
--- a rule in numbers allows what the rule allows
+-- a rule in numbers allows what the rule allows: a size, and all parameters
+numbers-size : (r : definition.Rule) (F : ℕ) → F < 65536 → Few (r .sizes) none → sizeAllowed (inNumbers r) F ≡ allows (r .sizes) (sizeOfNumber (r .sizes) F)
+unfolding sizeAllowed lengthAllowed inNumbers
+numbers-size r F small h = size-test F small (r .sizes) h
+
 numbers-allow : (r : definition.Rule) (bias mode F : ℕ) → F < 65536 → Few (r .sizes) none → ruleAllows (inNumbers r) bias mode F ≡ allowed r bias mode (sizeOfNumber (r .sizes) F)
-unfolding ruleAllows sizeAllowed lengthAllowed inNumbers
+unfolding ruleAllows inNumbers
 numbers-allow r bias mode F small h =
     let size : Size = sizeOfNumber (r .sizes) F in
     by-lt (λ z. z ≡ allowed r bias mode size) (most (r .hasBias)) bias
     (λ (l : most (r .hasBias) < bias). simp (lt-leb _ _ l))
     (λ (l : bias ≤ most (r .hasBias)). by-lt (λ z. z ≡ allowed r bias mode size) (most (r .hasMode)) mode
     (λ (m : most (r .hasMode) < mode). simp (le-leb _ _ l, lt-leb _ _ m))
-    (λ (m : mode ≤ most (r .hasMode)). simp (le-leb _ _ l, le-leb _ _ m) (size-test F small (r .sizes) h)))
+    (λ (m : mode ≤ most (r .hasMode)). simp (le-leb _ _ l, le-leb _ _ m) (numbers-size r F small h)))
 
 -- the test of all eight bytes, with the unused ones first
 unused-first : (a b c d e f : Bool) → a && b && c && d && e && f ≡ (a && (b && d)) && (c && (e && f))
@@ -220,29 +225,50 @@ module _ (code : ℕ) (ps : List ℕ) where
   unfolding goodEight
   unused-set z e f = simp (by-parts, ← e, f, and-false)
 
-  module _ (c : ℕ) (r : Rule) (w : c ≡ plain code) (k : r ≡ ruleAt c) where
-    rule-is : r ≡ encoded (typeOf code)
-    unfolding ruleAt typeOf
-    rule-is = k ∙ ap ruleAt w
+  module _ (r : Rule) (rule-is : r ≡ encoded (typeOf code)) (a b size : ℕ) (ea : a ≡ getD ps 6 0) (high : a < 256) (eb : b ≡ getD ps 7 0) (low : b < 256) (es : size ≡ sizeHeld r (a * 256 + b)) where
+    size-is : size ≡ lengthThatHolds (ruleFor (typeOf code) .default) (a * 256 + b)
+    unfolding encoded
+    size-is = es ∙ ap (λ q. sizeHeld q (a * 256 + b)) rule-is ∙ numbers-hold (ruleFor (typeOf code)) (a * 256 + b) (few (typeOf code))
 
-    module _ (a b size : ℕ) (ea : a ≡ getD ps 6 0) (high : a < 256) (eb : b ≡ getD ps 7 0) (low : b < 256) (es : size ≡ sizeHeld r (a * 256 + b)) where
-      size-is : size ≡ lengthThatHolds (ruleFor (typeOf code) .default) (a * 256 + b)
-      unfolding encoded
-      size-is = es ∙ ap (λ q. sizeHeld q (a * 256 + b)) rule-is ∙ numbers-hold (ruleFor (typeOf code)) (a * 256 + b) (few (typeOf code))
+    small : size < 65536
+    small = rw size-is (held-small (ruleFor (typeOf code)) a b low (few (typeOf code)) high)
 
-      small : size < 65536
-      small = rw size-is (held-small (ruleFor (typeOf code)) a b low (few (typeOf code)) high)
+    pub by-rule : (z : Bool) (bias : ℕ) (g answer : Bool) → length ps ≡ 8 → z ≡ unusedZero ps → z ≡ true → bias ≡ big (getD ps 2 0 ∷ getD ps 3 0 ∷ [])
+        → g ≡ ruleAllows r bias (getD ps 5 0) size → g ≡ answer → goodEight code ps ≡ answer
+    unfolding encoded
+    by-rule z bias g answer h e t i d x =
+        let R : definition.Rule = ruleFor (typeOf code) in
+        let good : ruleAllows r bias (getD ps 5 0) size ≡ allowed R bias (getD ps 5 0) (sizeOfNumber (R .sizes) size) =
+        rw rule-is (numbers-allow R bias (getD ps 5 0) size small (few-sizes (R .sizes) (R .default) (few (typeOf code)))) in
+        let held : sizeOfNumber (R .sizes) size ≡ sizeIn R ps = rw (size-is, ← ea, ← eb) (held-is R a b low (few (typeOf code)) .1) in
+        sym (d ∙ good ∙ simp (good-eight code ps h, by-parts, ← e, t, bias-read ps h, i, held)) ∙ x
 
-      pub by-rule : (z : Bool) (bias : ℕ) (g answer : Bool) → length ps ≡ 8 → z ≡ unusedZero ps → z ≡ true → bias ≡ big (getD ps 2 0 ∷ getD ps 3 0 ∷ [])
-          → g ≡ ruleAllows r bias (getD ps 5 0) size → g ≡ answer → goodEight code ps ≡ answer
-      unfolding encoded
-      by-rule z bias g answer h e t i d x =
-          let R : definition.Rule = ruleFor (typeOf code) in
-          let good : ruleAllows r bias (getD ps 5 0) size ≡ allowed R bias (getD ps 5 0) (sizeOfNumber (R .sizes) size) =
-          rw rule-is (numbers-allow R bias (getD ps 5 0) size small (few-sizes (R .sizes) (R .default) (few (typeOf code)))) in
-          let held : sizeOfNumber (R .sizes) size ≡ sizeIn R ps = rw (size-is, ← ea, ← eb) (held-is R a b low (few (typeOf code)) .1) in
-          sym (d ∙ good ∙ simp (good-eight code ps h, by-parts, ← e, t, bias-read ps h, i, held)) ∙ x
+    pub by-shape : (good : Bool) → good ≡ true → record { layout = r .prefix; size = size } ≡ shapeIf good code ps
+    unfolding encoded inNumbers shapeIf shapeOf layoutNumber
+    by-shape good h = rw (h, size-is, held-is (ruleFor (typeOf code)) a b low (few (typeOf code)) .0, rule-is, ea, eb)
 
-      pub by-shape : (good : Bool) → good ≡ true → record { layout = r .prefix; size = size } ≡ shapeIf good code ps
-      unfolding encoded inNumbers shapeIf shapeOf layoutNumber
-      by-shape good h = rw (h, size-is, held-is (ruleFor (typeOf code)) a b low (few (typeOf code)) .0, rule-is, ea, eb)
+-- the way through `layout_of`
+pub layout-is : (code : ℕ) (r : Rule) → r ≡ encoded (typeOf code) → r .prefix ≡ layoutNumber code
+unfolding encoded inNumbers layoutNumber
+layout-is code r e = ap (λ q. q .prefix) e
+
+-- the ways through `good_length`, a and b being the numbers that the bytes p and q are
+suits-type : (o : Option FieldType) (a b : ℕ) → suits (ruleFor o) a b ≡ suitsType o a b
+unfolding ruleFor
+suits-type none a b = refl
+suits-type (some T) a b = refl
+
+module _ (code p q a b : ℕ) (ea : a ≡ p) (eb : b ≡ q) where
+  pub replaces-nothing : a * 256 + b ≡ 0 → true ≡ goodLength code p q
+  unfolding goodLength
+  replaces-nothing e = rw (← ea, ← eb, le-ltb 0 (a * 256 + b) (omega arith))
+
+  pub length-judged : (r : Rule) (g : Bool) → r ≡ encoded (typeOf code) → a < 256 → b < 256 → (a * 256 + b ≡ 0 → ⊥) → g ≡ sizeAllowed r (a * 256 + b) → g ≡ goodLength code p q
+  unfolding encoded goodLength
+  length-judged r g e high low above k =
+      let R : definition.Rule = ruleFor (typeOf code) in
+      let x : (a * 256 + b) / 256 ≡ a = omega arith in
+      let y : (a * 256 + b) % 256 ≡ b = omega arith in
+      let allowed-is : sizeAllowed r (a * 256 + b) ≡ suits R a b =
+      rw e (numbers-size R (a * 256 + b) (omega arith) (few-sizes (R .sizes) (R .default) (few (typeOf code))) ∙ rw (x, y)) in
+      k ∙ allowed-is ∙ rw (← ea, ← eb, lt-ltb 0 (a * 256 + b) (omega (arith, above))) (suits-type (typeOf code) a b)

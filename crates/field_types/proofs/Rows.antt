@@ -48,3 +48,8 @@ rule-found r c k e h = h ∙ sym (ap ruleAt e)
 pub rule-none : (c : ℕ) → Unlisted c types → encoded none ≡ ruleAt c
 unfolding ruleAt
 rule-none c h = rw (not-listed c types h)
+
+-- a code is judged by the rule that its plain code finds
+pub rule-of-plain : (code c : ℕ) (r : Rule) → c ≡ plain code → r ≡ ruleAt c → r ≡ encoded (typeOf code)
+unfolding ruleAt typeOf
+rule-of-plain code c r w k = k ∙ ap ruleAt w

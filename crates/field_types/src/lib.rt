@@ -1,9 +1,10 @@
-// Field types (document 01, "Field types"; document 02, Q-1 to Q-3): the plain code of a type code, the rule that it finds, the size that holds for an SDA's type parameters, and their test.
+// Field types (document 01, "Field types"; document 02, Q-1 to Q-4): the plain code of a type code, the rule that it finds, the size that holds for an SDA's type parameters, and their test; and the test of a length that replaces theirs.
 ghost use mathlib.Core.Path.{_≡_};
 ghost use lib.ListN.{length};
-ghost use Rattle.fdoca.specs.FieldType.{plain};
-ghost use Rattle.field_types.specs.Rows.{ruleAt};
-ghost use Rattle.field_types.specs.Parameters.{unusedZero, sizeHeld, lengthAllowed, digitsAllowed, sizeAllowed, ruleAllows, goodEight, noShape, shapeIf};
+ghost use Rattle.fdoca.specs.FieldType.{plain, typeOf};
+ghost use Rattle.fdoca.specs.Check.{goodLength};
+ghost use Rattle.field_types.specs.Rows.{encoded, ruleAt};
+ghost use Rattle.field_types.specs.Parameters.{unusedZero, sizeHeld, lengthAllowed, digitsAllowed, sizeAllowed, ruleAllows, goodEight, layoutNumber, noShape, shapeIf};
 use numbers::pair;
 use numbers::wide;
 
@@ -205,6 +206,22 @@ fn rule_at(code: u8) -> Rule
     }
 }
 
+// The rule by which a type code is judged: that of its plain code.
+fn rule_of(code: u8) -> Rule
+    ensures { λ r. ⌜ r ≡ encoded (typeOf code) ⌝ }
+{
+    let plain = plain_code(code);
+    rule_at(plain)
+}
+
+// The layout's number by that rule, DIGITS of a packed decimal.
+pub fn layout_of(code: u8) -> u8
+    ensures { λ r. ⌜ r ≡ layoutNumber code ⌝ }
+{
+    let rule = rule_of(code);
+    rule.prefix
+}
+
 // Whether the bytes that hold no type parameter are zero.
 fn unused_zero(ps: &[u8]) -> bool
     requires { ⌜ length (now ps) ≡ 8 ⌝ }
@@ -283,6 +300,18 @@ fn size_allowed(rule: Rule, size: usize) -> bool
     digits_allowed(rule.digits, size / 256, size % 256)
 }
 
+// Whether a length that a group triplet gives, in two bytes, suits the type of a code as it is given; one of zero replaces nothing.
+pub fn good_length(code: u8, a: u8, b: u8) -> bool
+    ensures { λ r. ⌜ r ≡ goodLength code a b ⌝ }
+{
+    let length = wide(a) * 256 + wide(b);
+    if length == 0 {
+        return true;
+    }
+    let rule = rule_of(code);
+    size_allowed(rule, length)
+}
+
 // Whether a rule allows a bias indicator, a mode and a size.
 fn rule_allows(rule: Rule, bias: usize, mode: u8, size: usize) -> bool
     ensures { λ r. ⌜ r ≡ ruleAllows rule bias mode size ⌝ }
@@ -316,8 +345,7 @@ pub fn shape_of(code: u8, ps: &[u8]) -> Shape
     if !unused_zero(ps) {
         return no_shape();
     }
-    let plain = plain_code(code);
-    let rule = rule_at(plain);
+    let rule = rule_of(code);
     let given = wide(ps[6]) * 256 + wide(ps[7]);
     let size = size_held(rule, given);
     if rule_allows(rule, pair(ps[2], ps[3]), ps[5], size) {

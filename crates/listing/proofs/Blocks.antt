@@ -13,7 +13,7 @@ use Rattle.fdoca.specs.Walk.{Note, walk}
 use Rattle.fdoca.specs.Unfolding.{unfolded}
 use Rattle.fdoca.specs.Dump.{refusedLine, itemLines, textOf, blockNotes}
 use Rattle.fdoca.proofs.Stops.{walk-number}
-use Rattle.plans.specs.Plan.{entryOf, Planned}
+use Rattle.fields.specs.Plan.{entryOf, Planned}
 use Rattle.plans.specs.Tied.{listOf}
 use Rattle.descriptors.specs.declared.Examined.{Examined}
 use Rattle.descriptors.specs.Holds.{Ready, Examination}

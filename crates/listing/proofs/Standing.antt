@@ -9,7 +9,7 @@ use Rattle.fdoca.specs.Walk.{Note}
 use Rattle.fdoca.specs.Dump.{itemLine, itemLines}
 use Rattle.fdoca.specs.Between.{Stands}
 use Rattle.fdoca.proofs.Cover.{Standing, none-left, one-more}
-use Rattle.plans.specs.Plan.{Proper}
+use Rattle.fields.specs.Plan.{Proper}
 use Rattle.terminated.specs.Answer.{answer}
 use Rattle.walks.specs.Entry.{measureEntry}
 use Rattle.walks.specs.Marks.{markOf, Noted, nothing}

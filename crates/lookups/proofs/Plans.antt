@@ -8,7 +8,7 @@ use lib.ListN.{length}
 use lib.Seq.{sets}
 use Rattle.fdoca.specs.Item.{Field}
 use Rattle.fdoca.specs.Unfolding.{unfolded}
-use Rattle.plans.specs.Plan.{entryOf, Planned}
+use Rattle.fields.specs.Plan.{entryOf, Planned}
 use Rattle.plans.specs.Tied.{listOf}
 use Rattle.descriptors.specs.Holds.{Ready}
 use Rattle.descriptors.proofs.Callers.{for-unfolding}

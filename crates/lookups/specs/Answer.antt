@@ -6,7 +6,7 @@ use lib.ListN.{length}
 use Rattle.fdoca.specs.Basics.{Result, ok}
 use Rattle.fdoca.specs.Walk.{Note}
 use Rattle.fdoca.specs.Calls.{stateOf}
-use Rattle.plans.specs.Plan.{digitsPart}
+use Rattle.fields.specs.Plan.{digitsPart}
 use Rattle.walks.specs.declared.Found.{Found}
 use Rattle.walks.specs.Finding.{foundOf, stateFound}
 

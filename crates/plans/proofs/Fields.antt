@@ -10,11 +10,12 @@ use lib.Dec.{ltb, eqb}
 use lib.ListN.{length, getD, take, drop, replicate, length-map}
 use lib.Seq.{sets}
 use Rattle.fdoca.specs.Basics.{if_then_else_, lookup, product, repeat}
-use Rattle.fdoca.specs.Triplet.{Group}
+use Rattle.fdoca.specs.Triplet.{Kind, rowLayout, groupArray, Group, taken, factor}
 use Rattle.fdoca.specs.Item.{Field}
 use Rattle.fdoca.specs.Unfolding.{Described, array, row, fieldsTaken, fieldsReferred, groupFields, addFields}
-use Rattle.plans.specs.Plan.{entryOf, Proper, Planned, empty, entry}
-use Rattle.plans.specs.Tied.{describedBy, listOf, groupsIn, groupsAt, rowList, caseOf, Groups, Refers, RowAt, Kept, Tied, Known}
+use Rattle.fields.specs.Plan.{entryOf, Proper, Planned, empty, entry}
+use Rattle.plans.specs.Tied.{describedBy, listOf, groupsIn, kindAt, groupsAt, rowList, caseOf, Groups, Makes, of-row, of-column, Refers, RowAt, Kept, Tied, Known}
+use Rattle.fields.proofs.Replacing.{column-proper}
 use Rattle.plans.proofs.Lists.{read-back}
 use Rattle.plans.proofs.Rows.{adds-first}
 use Rattle.plans.proofs.Referred.{row-once, row-itself}
@@ -42,17 +43,17 @@ plan-taken zero f xs p = plan-replicate (product xs) f p
 plan-taken (suc t) f [] p = entry p empty
 plan-taken (suc t) f (x ∷ xs) p = plan-replicate (suc t * product xs) f p
 
-module _ (ds : List (ℕ × Described)) (P : Group → Type 0) (each : (g : Group) → P g → Plan (groupFields ds g)) where
-  plan-groups : (n : ℕ) (l : List ℕ) → Groups P n l → Plan (addFields ds [] (groupsIn n l))
+module _ (kind : Kind) (ds : List (ℕ × Described)) (P : Group → Type 0) (each : (g : Group) → P g → Plan (groupFields kind ds g)) where
+  plan-groups : (n : ℕ) (l : List ℕ) → Groups P n l → Plan (addFields kind ds [] (groupsIn n l))
   unfolding groupsIn Groups addFields
   plan-groups n [] r = empty
   plan-groups n (a ∷ []) r = empty
   plan-groups n (a ∷ b ∷ []) r = empty
   plan-groups n (a ∷ b ∷ c ∷ l) r = go (ltb 0 n) (eqb b 0x7F) r (plan-groups (n - 3) l) (plan-groups (a - 3) l)
     where
-      go : (u v : Bool) → caseOf u (P (record { ref = a; taken = b; factor = c }) × Groups P (n - 3) l) (caseOf v (Groups P (a - 3) l) (Unit {0}))
-          → (Groups P (n - 3) l → Plan (addFields ds [] (groupsIn (n - 3) l))) → (Groups P (a - 3) l → Plan (addFields ds [] (groupsIn (a - 3) l)))
-          → Plan (addFields ds [] (if u then record { ref = a; taken = b; factor = c } ∷ groupsIn (n - 3) l else if v then groupsIn (a - 3) l else []))
+      go : (u v : Bool) → caseOf u (P (record { ref = a; byte1 = b; byte2 = c }) × Groups P (n - 3) l) (caseOf v (Groups P (a - 3) l) (Unit {0}))
+          → (Groups P (n - 3) l → Plan (addFields kind ds [] (groupsIn (n - 3) l))) → (Groups P (a - 3) l → Plan (addFields kind ds [] (groupsIn (a - 3) l)))
+          → Plan (addFields kind ds [] (if u then record { ref = a; byte1 = b; byte2 = c } ∷ groupsIn (n - 3) l else if v then groupsIn (a - 3) l else []))
       go true v r x y = rw adds-first (plan-append _ _ (each _ (r .0)) (x (r .1)))
       go false true r x y = y r
       go false false r x y = empty
@@ -67,13 +68,23 @@ module _ (d s z e : List ℕ) (tied : Tied d s z e) where
       go (array f xs) k = plan-taken t f xs (k .proper)
       go (row l) k = rw (row-once t l, k .made .fields) (rows (getD s i 0) h (row-itself (k .made)))
 
+  -- one group, of an RLO or a GDA
+  plan-group : (kind : Kind) (n p : ℕ) → p ≤ n → ((p : ℕ) → p < n → RowAt d s p (rowList d p) → Plan (rowList d p))
+      → (g : Group) → Refers kind d s p g → Plan (groupFields kind (describedBy d) g)
+  plan-group kind n p h rows g r = go kind (r .to) (r .known) (r .makes)
+    where
+      go : (kind : Kind) (D : Described) → lookup (g .ref) (describedBy d) ≡ some D → Makes kind g D → Plan (groupFields kind (describedBy d) g)
+      go rowLayout D o (of-row f t) = plan-repeat (factor g) _ (plan-referred n rows (g .ref) (taken g) D o (omega (arith, r .back)))
+      go groupArray (array f []) o (of-column good) =
+          let k = tied .each (g .ref) (array f []) o in
+          rw o (entry (column-proper f (g .byte1) (g .byte2) (k .proper) (k .typed) good) empty)
+
   -- rows before n: a row's groups refer to triplets before it
   plan-rows : (n p : ℕ) → p < n → RowAt d s p (rowList d p) → Plan (rowList d p)
   unfolding rowList groupsAt
   plan-rows zero p h r = absurd (omega arith)
   plan-rows (suc n) p h r =
-      plan-groups (describedBy d) (Refers d s p)
-      (λ g x. plan-repeat (g .factor) _ (plan-referred n (plan-rows n) (g .ref) (g .taken) (x .to) (x .known) (omega (arith, x .back))))
+      plan-groups (kindAt d p) (describedBy d) (Refers (kindAt d p) d s p) (λ g x. plan-group (kindAt d p) n p (omega arith) (plan-rows n) g x)
       (getD d p 0 - 3) (drop (p + 3) d) (r .groups)
 
   pub planned : (i : ℕ) → Known d i → Planned (map entryOf (listOf d i)) (listOf d i)

@@ -1,4 +1,4 @@
--- The loop of `expand`, over the groups of an RLO and of its CPTs: at a group, at the head of a CPT and at the end of the row.
+-- The loop of `expand`, over the groups of an RLO or a GDA and of its CPTs: at a group, at the head of a CPT and at the end of the row.
 -- Assumes nothing.
 use mathlib.Core.Path.{_≡_, refl, sym, ap, _∙_, subst}
 use mathlib.Core.List.{List, [], _∷_, _++_, map, map-append, append-nil, append-assoc}
@@ -8,12 +8,12 @@ use native.Mathlib.Omega.{arith}
 use borrow.Author.Tests.{lt-ltb, le-ltb, eq-eqb, ne-eqb}
 use lib.ListN.{length, getD, drop, length-append, length-drop, length-map}
 use lib.Seq.{sets, length-sets, drop-cons}
-use Rattle.fdoca.specs.Triplet.{Group}
+use Rattle.fdoca.specs.Triplet.{Kind, Group}
 use Rattle.fdoca.specs.Item.{Field}
 use Rattle.fdoca.specs.Unfolding.{Described, groupFields, addFields}
 use Rattle.fdoca.proofs.Tests.{by-lt, by-eq}
-use Rattle.plans.specs.Plan.{entryOf}
-use Rattle.plans.specs.Tied.{describedBy, groupsIn, groupsAt, rowList, Groups, Refers, RowAt}
+use Rattle.fields.specs.Plan.{entryOf}
+use Rattle.plans.specs.Tied.{describedBy, groupsIn, kindOf, kindAt, groupsAt, rowList, Groups, Refers, RowAt}
 use Rattle.plans.specs.Writing.{groupAt, groupList, endOfCPT}
 use Rattle.plans.proofs.Lists.{sets-append}
 
@@ -39,7 +39,7 @@ long-enough P n (a ∷ b ∷ []) h r = omega arith
 long-enough P n (a ∷ b ∷ c ∷ l) h r = omega arith
 
 module _ (n a b c : ℕ) (l : List ℕ) where
-  first-group : 0 < n → groupsIn n (a ∷ b ∷ c ∷ l) ≡ record { ref = a; taken = b; factor = c } ∷ groupsIn (n - 3) l
+  first-group : 0 < n → groupsIn n (a ∷ b ∷ c ∷ l) ≡ record { ref = a; byte1 = b; byte2 = c } ∷ groupsIn (n - 3) l
   unfolding groupsIn
   first-group h = simp (lt-ltb _ _ h)
 
@@ -52,7 +52,7 @@ module _ (n a b c : ℕ) (l : List ℕ) where
   no-more h e = simp (le-ltb _ _ h, ne-eqb _ _ e)
 
   module _ (P : Group → Type 0) where
-    first-fine : 0 < n → Groups P n (a ∷ b ∷ c ∷ l) → P (record { ref = a; taken = b; factor = c }) × Groups P (n - 3) l
+    first-fine : 0 < n → Groups P n (a ∷ b ∷ c ∷ l) → P (record { ref = a; byte1 = b; byte2 = c }) × Groups P (n - 3) l
     unfolding Groups
     first-fine h r = simp (lt-ltb _ _ h) at r
 
@@ -66,11 +66,11 @@ abbrev left : List ℕ → (g end : ℕ) → List Group
 left d g end = groupsIn (end - g) (drop g d)
 
 abbrev Left : List ℕ → List ℕ → (p g end : ℕ) → Type 0
-Left d s p g end = Groups (Refers d s p) (end - g) (drop g d)
+Left d s p g end = Groups (Refers (kindAt d p) d s p) (end - g) (drop g d)
 
 module _ (d s : List ℕ) (p g end : ℕ) (h : g < end) (r : Left d s p g end) where
   whole : g + 3 ≤ length d
-  whole = omega (arith, long-enough (Refers d s p) (end - g) (drop g d) (omega arith) r, length-drop g d)
+  whole = omega (arith, long-enough (Refers (kindAt d p) d s p) (end - g) (drop g d) (omega arith) r, length-drop g d)
 
   here : left d g end ≡ groupAt d g ∷ left d (g + 3) end
   unfolding groupAt
@@ -80,14 +80,14 @@ module _ (d s : List ℕ) (p g end : ℕ) (h : g < end) (r : Left d s p g end) w
       ∙ first-group (end - g) _ _ _ _ (omega arith)
       ∙ ap (λ (n : ℕ). groupAt d g ∷ groupsIn n (drop (g + 3) d)) e
 
-  parted : Refers d s p (groupAt d g) × Groups (Refers d s p) (end - g - 3) (drop (g + 3) d)
+  parted : Refers (kindAt d p) d s p (groupAt d g) × Groups (Refers (kindAt d p) d s p) (end - g - 3) (drop (g + 3) d)
   unfolding groupAt
-  parted = first-fine (end - g) _ _ _ _ (Refers d s p) (omega arith) (subst (Groups (Refers d s p) (end - g)) (three d g whole) r)
+  parted = first-fine (end - g) _ _ _ _ (Refers (kindAt d p) d s p) (omega arith) (subst (Groups (Refers (kindAt d p) d s p) (end - g)) (three d g whole) r)
 
   others : Left d s p (g + 3) end
   others =
       let e : end - g - 3 ≡ end - (g + 3) = omega arith in
-      subst (λ (n : ℕ). Groups (Refers d s p) n (drop (g + 3) d)) e (parted .1)
+      subst (λ (n : ℕ). Groups (Refers (kindAt d p) d s p) n (drop (g + 3) d)) e (parted .1)
 
 module _ (d : List ℕ) (g : ℕ) where
   -- a CPT stands at g
@@ -122,26 +122,27 @@ module _ (d s : List ℕ) (p g end : ℕ) (h : end ≤ g) (cpt : endOfCPT d g �
       let c = at-cpt d g cpt in
       let e : endOfCPT d g ≡ g + getD d g 0 = c .2 in
       let q : getD d g 0 - 3 ≡ endOfCPT d g - (g + 3) = omega arith in
-      subst (λ (n : ℕ). Groups (Refers d s p) n (drop (g + 3) d)) q
-      (behind-fine (end - g) _ _ _ _ (Refers d s p) (omega arith) (c .1) (subst (Groups (Refers d s p) (end - g)) (three d g (c .0)) r))
+      subst (λ (n : ℕ). Groups (Refers (kindAt d p) d s p) n (drop (g + 3) d)) q
+      (behind-fine (end - g) _ _ _ _ (Refers (kindAt d p) d s p) (omega arith) (c .1) (subst (Groups (Refers (kindAt d p) d s p) (end - g)) (three d g (c .0)) r))
 
 -- ---- the list of groups
 
-pub adds : (ds : List (ℕ × Described)) (l : List Field) (gs : List Group) → addFields ds l gs ≡ l ++ addFields ds [] gs
+pub adds : (kind : Kind) (ds : List (ℕ × Described)) (l : List Field) (gs : List Group) → addFields kind ds l gs ≡ l ++ addFields kind ds [] gs
 unfolding addFields
-adds ds l [] = sym (append-nil l)
-adds ds l (g ∷ gs) =
-    adds ds (l ++ groupFields ds g) gs
-    ∙ append-assoc l (groupFields ds g) (addFields ds [] gs)
-    ∙ ap (λ (m : List Field). l ++ m) (sym (adds ds (groupFields ds g) gs))
+adds kind ds l [] = sym (append-nil l)
+adds kind ds l (g ∷ gs) =
+    adds kind ds (l ++ groupFields kind ds g) gs
+    ∙ append-assoc l (groupFields kind ds g) (addFields kind ds [] gs)
+    ∙ ap (λ (m : List Field). l ++ m) (sym (adds kind ds (groupFields kind ds g) gs))
 
-pub adds-first : (ds : List (ℕ × Described)) (g : Group) (gs : List Group) → addFields ds [] (g ∷ gs) ≡ groupFields ds g ++ addFields ds [] gs
+pub adds-first : (kind : Kind) (ds : List (ℕ × Described)) (g : Group) (gs : List Group)
+    → addFields kind ds [] (g ∷ gs) ≡ groupFields kind ds g ++ addFields kind ds [] gs
 unfolding addFields
-adds-first ds g gs = adds ds (groupFields ds g) gs
+adds-first kind ds g gs = adds kind ds (groupFields kind ds g) gs
 
-adds-none : (d : List ℕ) → addFields (describedBy d) [] [] ≡ []
+adds-none : (kind : Kind) (ds : List (ℕ × Described)) → addFields kind ds [] [] ≡ []
 unfolding addFields
-adds-none d = refl
+adds-none kind ds = refl
 
 -- ---- the measures: 2p for the row at p, 2q + 1 for a group whose id's triplet stands at q
 
@@ -150,80 +151,86 @@ off q t e = omega arith
 
 -- ---- the invariant: the fields `done` are written, and the groups that are left give the others of the row at p
 
-pub record Going (d s : List ℕ) (p at : ℕ) (plan₀ plan : List ℕ) (a g end : ℕ) : Type 0 where
+pub record Going (d s : List ℕ) (p at kind : ℕ) (plan₀ plan : List ℕ) (a g end : ℕ) : Type 0 where
+  pub kind-is : kind ≡ getD d (p + 1) 0
   pub done : List Field
   pub written : plan ≡ sets plan₀ at (map entryOf done)
   pub place : a ≡ at + length done
-  pub parts : rowList d p ≡ done ++ addFields (describedBy d) [] (left d g end)
+  pub parts : rowList d p ≡ done ++ addFields (kindAt d p) (describedBy d) [] (left d g end)
   pub fine : Left d s p g end
   pub beyond : p < g
   pub inside : g ≤ length d
   pub same-length : length plan ≡ length plan₀
 
-module _ (d s : List ℕ) (p at : ℕ) (plan₀ : List ℕ) where
-  pub start : RowAt d s p (rowList d p) → Going d s p at plan₀ plan₀ at (p + 3) (p + getD d p 0)
+module _ (d s : List ℕ) (p at kind : ℕ) (plan₀ : List ℕ) where
+  pub start : kind ≡ getD d (p + 1) 0 → RowAt d s p (rowList d p) → Going d s p at kind plan₀ plan₀ at (p + 3) (p + getD d p 0)
   unfolding rowList groupsAt
-  start r =
+  start e r =
       let q : getD d p 0 - 3 ≡ p + getD d p 0 - (p + 3) = omega arith in
       record {
+        kind-is = e;
         done = [];
         written = refl;
         place = omega arith;
-        parts = ap (λ (n : ℕ). addFields (describedBy d) [] (groupsIn n (drop (p + 3) d))) q;
-        fine = subst (λ (n : ℕ). Groups (Refers d s p) n (drop (p + 3) d)) q (r .groups);
+        parts = ap (λ (n : ℕ). addFields (kindAt d p) (describedBy d) [] (groupsIn n (drop (p + 3) d))) q;
+        fine = subst (λ (n : ℕ). Groups (Refers (kindAt d p) d s p) n (drop (p + 3) d)) q (r .groups);
         beyond = omega arith;
         inside = r .head;
         same-length = refl;
       }
 
-  module _ (plan : List ℕ) (a g end : ℕ) (w : Going d s p at plan₀ plan a g end) where
+  module _ (plan : List ℕ) (a g end : ℕ) (w : Going d s p at kind plan₀ plan a g end) where
     -- at a group
     module _ (h : g < end) where
       pub within : g + 3 ≤ length d
       within = whole d s p g end h (w .fine)
 
-      refers-back : Refers d s p (groupAt d g)
+      refers-back : Refers (kindAt d p) d s p (groupAt d g)
       refers-back = parted d s p g end h (w .fine) .0
 
-      pub refers : Refers d s (length d) (groupAt d g)
+      pub refers : Refers (kindOf kind) d s (length d) (groupAt d g)
       refers =
           let r = refers-back in
           let b : getD s (groupAt d g .ref) 0 < p = r .back in
-          record { to = r .to; known = r .known; back = omega (arith, w .beyond, w .inside); id-fits = r .id-fits; repeats = r .repeats; takes = r .takes }
+          rw (w .kind-is)
+          (record { to = r .to; known = r .known; back = omega (arith, w .beyond, w .inside); id-fits = r .id-fits; makes = r .makes })
 
       pub down : (t : ℕ) → p + p ≡ t → getD s (getD d g 0) 0 + getD s (getD d g 0) 0 + 1 < t
       unfolding groupAt
       down t e = omega (arith, refers-back .back)
 
-      split : rowList d p ≡ w .done ++ groupList d g ++ addFields (describedBy d) [] (left d (g + 3) end)
+      split : rowList d p ≡ w .done ++ groupList d (kindAt d p) g ++ addFields (kindAt d p) (describedBy d) [] (left d (g + 3) end)
       unfolding groupList
       split =
           w .parts
-          ∙ ap (λ (gs : List Group). w .done ++ addFields (describedBy d) [] gs) (here d s p g end h (w .fine))
-          ∙ ap (λ (l : List Field). w .done ++ l) (adds-first (describedBy d) (groupAt d g) (left d (g + 3) end))
-          ∙ sym (append-assoc (w .done) (groupList d g) (addFields (describedBy d) [] (left d (g + 3) end)))
+          ∙ ap (λ (gs : List Group). w .done ++ addFields (kindAt d p) (describedBy d) [] gs) (here d s p g end h (w .fine))
+          ∙ ap (λ (l : List Field). w .done ++ l) (adds-first (kindAt d p) (describedBy d) (groupAt d g) (left d (g + 3) end))
+          ∙ sym (append-assoc (w .done) (groupList d (kindAt d p) g) (addFields (kindAt d p) (describedBy d) [] (left d (g + 3) end)))
 
-      pub room : at + length (rowList d p) ≤ length plan₀ → a + length (groupList d g) ≤ length plan
+      pub room : at + length (rowList d p) ≤ length plan₀ → a + length (groupList d (kindOf kind) g) ≤ length plan
       room k =
-          let e : length (rowList d p) ≡ length (w .done) + length (groupList d g) + length (addFields (describedBy d) [] (left d (g + 3) end)) =
+          let e : length (rowList d p) ≡ length (w .done) + length (groupList d (kindAt d p) g) + length (addFields (kindAt d p) (describedBy d) [] (left d (g + 3) end)) =
           ap length split ∙ simp length-append in
-          omega (arith, w .place, w .same-length)
+          rw (w .kind-is) (omega (arith, w .place, w .same-length))
 
-      pub more : (plan′ : List ℕ) (a′ : ℕ) → plan′ ≡ sets plan a (map entryOf (groupList d g)) → a′ ≡ a + length (groupList d g)
-          → Going d s p at plan₀ plan′ a′ (g + 3) end
-      more plan′ a′ u v =
-          let l : List ℕ = map entryOf (groupList d g) in
-          let e : length (w .done ++ groupList d g) ≡ length (w .done) + length (groupList d g) = length-append (w .done) (groupList d g) in
+      pub more : (plan′ : List ℕ) (a′ : ℕ) → plan′ ≡ sets plan a (map entryOf (groupList d (kindOf kind) g)) → a′ ≡ a + length (groupList d (kindOf kind) g)
+          → Going d s p at kind plan₀ plan′ a′ (g + 3) end
+      more plan′ a′ u′ v′ =
+          let u : plan′ ≡ sets plan a (map entryOf (groupList d (kindAt d p) g)) = rw (w .kind-is) at u′ in
+          let v : a′ ≡ a + length (groupList d (kindAt d p) g) = rw (w .kind-is) at v′ in
+          let l : List ℕ = map entryOf (groupList d (kindAt d p) g) in
+          let e : length (w .done ++ groupList d (kindAt d p) g) ≡ length (w .done) + length (groupList d (kindAt d p) g) = length-append (w .done) (groupList d (kindAt d p) g) in
           let q : a ≡ at + length (map entryOf (w .done)) = w .place ∙ ap (λ (n : ℕ). at + n) (sym (length-map (w .done) entryOf)) in
           let b : p < g = w .beyond in
           record {
-            done = w .done ++ groupList d g;
+            kind-is = w .kind-is;
+            done = w .done ++ groupList d (kindAt d p) g;
             written =
                 u
                 ∙ ap (λ (m : List ℕ). sets m a l) (w .written)
                 ∙ ap (λ (k : ℕ). sets (sets plan₀ at (map entryOf (w .done))) k l) q
                 ∙ sets-append plan₀ (map entryOf (w .done)) l at
-                ∙ ap (sets plan₀ at) (sym (map-append entryOf (w .done) (groupList d g)));
+                ∙ ap (sets plan₀ at) (sym (map-append entryOf (w .done) (groupList d (kindAt d p) g)));
             place = omega (arith, w .place);
             parts = split;
             fine = others d s p g end h (w .fine);
@@ -234,29 +241,30 @@ module _ (d s : List ℕ) (p at : ℕ) (plan₀ : List ℕ) where
 
     -- behind the end of a triplet
     module _ (h : end ≤ g) where
-      behind : (endOfCPT d g ≡ 0 → ⊥) → Going d s p at plan₀ plan a (g + 3) (endOfCPT d g)
+      behind : (endOfCPT d g ≡ 0 → ⊥) → Going d s p at kind plan₀ plan a (g + 3) (endOfCPT d g)
       behind c =
           let b : p < g = w .beyond in
           record {
+            kind-is = w .kind-is;
             done = w .done;
             written = w .written;
             place = w .place;
-            parts = w .parts ∙ ap (λ (gs : List Group). w .done ++ addFields (describedBy d) [] gs) (next d s p g end h c);
+            parts = w .parts ∙ ap (λ (gs : List Group). w .done ++ addFields (kindAt d p) (describedBy d) [] gs) (next d s p g end h c);
             fine = next-fine d s p g end h c (w .fine);
             beyond = omega arith;
             inside = at-cpt d g c .0;
             same-length = w .same-length;
           }
 
-      pub over : (e : ℕ) → e ≡ endOfCPT d g → (e ≡ 0 → ⊥) → Going d s p at plan₀ plan a (g + 3) e
-      over e u z = subst (λ (n : ℕ). Going d s p at plan₀ plan a (g + 3) n) (sym u) (behind (λ c. z (u ∙ c)))
+      pub over : (e : ℕ) → e ≡ endOfCPT d g → (e ≡ 0 → ⊥) → Going d s p at kind plan₀ plan a (g + 3) e
+      over e u z = subst (λ (n : ℕ). Going d s p at kind plan₀ plan a (g + 3) n) (sym u) (behind (λ c. z (u ∙ c)))
 
       all-done : endOfCPT d g ≡ 0 → rowList d p ≡ w .done
       all-done c =
           let b : p < g = w .beyond in
           w .parts
-          ∙ ap (λ (gs : List Group). w .done ++ addFields (describedBy d) [] gs) (no-cpt d g (end - g) (omega arith) (omega arith) c)
-          ∙ ap (λ (l : List Field). w .done ++ l) (adds-none d)
+          ∙ ap (λ (gs : List Group). w .done ++ addFields (kindAt d p) (describedBy d) [] gs) (no-cpt d g (end - g) (omega arith) (omega arith) c)
+          ∙ ap (λ (l : List Field). w .done ++ l) (adds-none (kindAt d p) (describedBy d))
           ∙ append-nil (w .done)
 
       module _ (e : ℕ) (u : e ≡ endOfCPT d g) (z : e ≡ 0) where

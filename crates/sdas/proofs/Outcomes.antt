@@ -21,20 +21,20 @@ pub found-outcome : {A : Type 0} (n p : ℕ) (a : A) → n ≡ 0 → ok a ≡ ou
 unfolding outcome
 found-outcome n p a e = simp (eq-eqb n 0 e)
 
-module _ (s z : List ℕ) (es : List (ℕ × Entry)) (i : ℕ) (small : i < 256) where
-  pub is-described : (getD s i 0 ≡ 65535 → ⊥) → Agrees s z es → isDescribed i es ≡ true
+module _ (s z e : List ℕ) (es : List (ℕ × Entry)) (i : ℕ) (small : i < 256) where
+  pub is-described : (getD s i 0 ≡ 65535 → ⊥) → Agrees s z e es → isDescribed i es ≡ true
   is-described h a = go (lookup i es) (a i small)
     where
-      go : (x : Option Entry) → KeptAs (getD s i 0) (getD z i 0) x → isSome x ≡ true
+      go : (x : Option Entry) → KeptAs (getD s i 0) (getD z i 0) (getD e i 0) x → isSome x ≡ true
       go none k = absurd (h k)
       go (some y) k = refl
 
-  pub not-described : getD s i 0 ≡ 65535 → Agrees s z es → isDescribed i es ≡ false
-  not-described e a = go (lookup i es) (a i small)
+  pub not-described : getD s i 0 ≡ 65535 → Agrees s z e es → isDescribed i es ≡ false
+  not-described free a = go (lookup i es) (a i small)
     where
-      go : (x : Option Entry) → KeptAs (getD s i 0) (getD z i 0) x → isSome x ≡ false
+      go : (x : Option Entry) → KeptAs (getD s i 0) (getD z i 0) (getD e i 0) x → isSome x ≡ false
       go none k = refl
-      go (some y) k = absurd (k .here e)
+      go (some y) k = absurd (k .here free)
 
 -- a product is at most the product of the limits
 pub below : (a b m n : ℕ) → a ≤ m → b ≤ n → a * b ≤ m * n

@@ -137,10 +137,10 @@ refused-is n x r e h = h ∙ rw e
 -- the ways through judging an SDA
 module _ (t s : List ℕ) (r : Judged) where
   refused-by : (n : ℕ) → n ≢ 0 → r ≡ record { number = n; shape = noShape; count = 0 }
-      → ((p : ℕ) (z : List ℕ) (es : List (ℕ × Entry)) → Agrees s z es → checkSDA es p t ≡ refuse n p) → JudgedSDA t s r
+      → ((p : ℕ) (z y : List ℕ) (es : List (ℕ × Entry)) → Agrees s z y es → checkSDA es p t ≡ refuse n p) → JudgedSDA t s r
   refused-by n h e f =
       record {
-        result = λ p z es a. f p z es a ∙ rw e (refused-outcome n p (described (idOf t) (extentsOf t) es) h);
+        result = λ p z y es a. f p z y es a ∙ rw e (refused-outcome n p (described (idOf t) (codeOf t) (extentsOf t) es) h);
         count = λ q. absurd (not-0 q);
         shape = λ q. absurd (not-0 q);
         no-count = λ q. rw e;
@@ -155,12 +155,12 @@ module _ (t s : List ℕ) (r : Judged) where
 
   pub sda-bad-length : (a : Bool) → r ≡ record { number = 5; shape = noShape; count = 0 } → a ≡ goodLengthSDA t → a ≡ false → JudgedSDA t s r
   unfolding checkSDA
-  sda-bad-length a e h f = refused-by 5 (λ q. omega arith) e (λ p z es k. rw (← h, f))
+  sda-bad-length a e h f = refused-by 5 (λ q. omega arith) e (λ p z y es k. rw (← h, f))
 
   module _ (a : Bool) (x : Shape) (h : a ≡ goodLengthSDA t) (f : a ≡ true) (g : x ≡ shapeIf (goodSDA t) (codeOf t) (parametersOf t)) where
     pub sda-bad : r ≡ record { number = 6; shape = noShape; count = 0 } → x .layout ≡ 255 → JudgedSDA t s r
     unfolding checkSDA
-    sda-bad e n = refused-by 6 (λ q. omega arith) e (λ p z es k. rw (← h, f, shape-none (codeOf t) (parametersOf t) x (goodSDA t) g n))
+    sda-bad e n = refused-by 6 (λ q. omega arith) e (λ p z y es k. rw (← h, f, shape-none (codeOf t) (parametersOf t) x (goodSDA t) g n))
 
     module _ (i : ℕ) (n : x .layout ≡ 255 → ⊥) (j : i ≡ getD t 2 0) (l : i < 256) where
       good : goodSDA t ≡ true
@@ -170,25 +170,25 @@ module _ (t s : List ℕ) (r : Judged) where
       unfolding checkSDA
       sda-taken e u =
           refused-by 7 (λ q. omega arith) e
-          (λ p z es w.
-          let d : isDescribed (idOf t) es ≡ true = is-described s z es (idOf t) (rw j at l) (rw j at u) w in
+          (λ p z y es w.
+          let d : isDescribed (idOf t) es ≡ true = is-described s z y es (idOf t) (rw j at l) (rw j at u) w in
           rw (← h, f, good, d))
 
       module _ (count : ℕ) (u : getD s i 0 ≡ 65535) (m : count ≡ product (extentsOf t)) where
-        new : (z : List ℕ) (es : List (ℕ × Entry)) → Agrees s z es → isDescribed (idOf t) es ≡ false
-        new z es w = not-described s z es (idOf t) (rw j at l) (rw j at u) w
+        new : (z y : List ℕ) (es : List (ℕ × Entry)) → Agrees s z y es → isDescribed (idOf t) es ≡ false
+        new z y es w = not-described s z y es (idOf t) (rw j at l) (rw j at u) w
 
         pub sda-many : (most : ℕ) → r ≡ record { number = 10; shape = noShape; count = 0 } → 4096 ≤ most → most < count → JudgedSDA t s r
         unfolding checkSDA
         sda-many most e o k =
-            refused-by 10 (λ q. omega arith) e (λ p z es w. rw (← h, f, good, new z es w, ← m, lt-ltb 4096 count (omega arith)))
+            refused-by 10 (λ q. omega arith) e (λ p z y es w. rw (← h, f, good, new z y es w, ← m, lt-ltb 4096 count (omega arith)))
 
         pub sda-fine : r ≡ record { number = 0; shape = x; count = count } → count ≤ 4096 → JudgedSDA t s r
         unfolding checkSDA
         sda-fine e k =
             record {
-              result = λ p z es w.
-                  rw (← h, f, good, new z es w, ← m, le-ltb 4096 count k, e) (found-outcome 0 p (described (idOf t) (extentsOf t) es) refl);
+              result = λ p z y es w.
+                  rw (← h, f, good, new z y es w, ← m, le-ltb 4096 count k, e) (found-outcome 0 p (described (idOf t) (codeOf t) (extentsOf t) es) refl);
               count = λ q. rw e m;
               shape = λ q. rw e (shape-is (codeOf t) (parametersOf t) x (goodSDA t) g good);
               no-count = λ q. absurd (q (rw e));

@@ -19,13 +19,13 @@ unfoldable pub extentOr1 : List ℕ → (at : ℕ) → ℕ
 extentOr1 t at = if ltb (length t) (at + 2) then 1 else big (getD t at 0 ∷ getD t (at + 1) 0 ∷ [])
 
 -- The described ids with an SDA's at their head.
-abbrev pub described : ℕ → List ℕ → List (ℕ × Entry) → State
-described id xs es = record { described = (id, array xs) ∷ es; current = none }
+abbrev pub described : (id code : ℕ) → List ℕ → List (ℕ × Entry) → State
+described id code xs es = record { described = (id, array code xs) ∷ es; current = none }
 
 -- What judging an SDA's bytes t gives, where `s` has the positions of the described ids.
 pub record JudgedSDA (t s : List ℕ) (r : Judged) : Type 0 where
-  pub result : (p : ℕ) (z : List ℕ) (es : List (ℕ × Entry)) → Agrees s z es
-      → checkSDA es p t ≡ outcome (r .number) p (described (idOf t) (extentsOf t) es)
+  pub result : (p : ℕ) (z e : List ℕ) (es : List (ℕ × Entry)) → Agrees s z e es
+      → checkSDA es p t ≡ outcome (r .number) p (described (idOf t) (codeOf t) (extentsOf t) es)
   pub count : r .number ≡ 0 → r .count ≡ product (extentsOf t)
   pub shape : r .number ≡ 0 → r .shape ≡ shapeOf (codeOf t) (parametersOf t)
   pub no-count : r .number ≢ 0 → r .count ≡ 0

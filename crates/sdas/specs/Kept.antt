@@ -1,24 +1,15 @@
 -- What is kept of an SDA in the tables of positions, sizes and plan entries.
-use Prim.Native.Nat.{ℕ, _+_, _*_, _/_, _%_, _<_}
+use Prim.Native.Nat.{ℕ, _+_, _*_, _<_}
 use mathlib.Core.Path.{_≡_}
 use mathlib.Core.List.{List}
 use mathlib.Core.Option.{some}
-use lib.Dec.{eqb}
 use lib.ListN.{set}
-use Rattle.fdoca.specs.Basics.{if_then_else_, product}
+use Rattle.fdoca.specs.Basics.{product}
 use Rattle.fdoca.specs.FieldType.{FieldType, typeOf}
 use Rattle.fdoca.specs.Triplet.{idOf, codeOf, extentsOf}
 use Rattle.fdoca.specs.Unfolding.{fieldOf}
-use Rattle.plans.specs.Plan.{entryOf, Proper}
+use Rattle.fields.specs.Plan.{entryOf, Proper}
 use Rattle.plans.specs.Tied.{lowerOf}
-
--- The parts of a plan's entry that a size makes, given as one number, by the layout's number: its length in bytes, and the layout's number
--- with the digits' part.
-unfoldable pub lengthPart : (layout size : ℕ) → ℕ
-lengthPart layout size = if eqb layout 4 then size / 256 / 2 + 1 else size
-
-unfoldable pub layoutPart : (layout size : ℕ) → ℕ
-layoutPart layout size = if eqb layout 4 then 4 * (size / 256 % 2 + 2 * (size % 256)) else layout
 
 -- The plan's entry for the field of an SDA's bytes t.
 pub record EntryOf (t : List ℕ) (r : ℕ) : Type 0 where

@@ -8,7 +8,7 @@ ghost use Rattle.fdoca.specs.Check.{goodLengthSDA, goodSDA};
 ghost use Rattle.field_types.specs.Parameters.{shapeOf, noShape, shapeIf};
 ghost use Rattle.plans.specs.Tied.{lowerOf};
 ghost use Rattle.sdas.specs.Judged.{extentOr1, JudgedSDA};
-ghost use Rattle.sdas.specs.Kept.{lengthPart, layoutPart, EntryOf, PutSDA};
+ghost use Rattle.sdas.specs.Kept.{EntryOf, PutSDA};
 use field_types::Shape;
 use numbers::wide64;
 
@@ -122,37 +122,13 @@ pub fn judge_sda(t: &[u8], starts: &[u16; 256]) -> Judged
     }
 }
 
-// The length in bytes of a size: p / 2 + 1 of p digits.
-fn length_part(layout: u8, size: u64) -> u64
-    requires { ⌜ size < 65536 ⌝ }
-    ensures { λ r. ⌜ (r ≡ lengthPart layout size) × (r < 65536) ⌝ }
-{
-    if layout == field_types::DIGITS {
-        return size / 256 / 2 + 1;
-    }
-    size
-}
-
-// The layout's number in a plan, and of digits whether they are odd in number, and the fraction digits.
-fn layout_part(layout: u8, size: u64) -> u64
-    ensures { λ r. ⌜ (r ≡ layoutPart layout size) × (r < 4096) ⌝ }
-{
-    if layout == field_types::DIGITS {
-        return 4 * (size / 256 % 2 + 2 * (size % 256));
-    }
-    wide64(layout)
-}
-
 // The plan's entry for an SDA's field.
 fn plan_entry(t: &[u8], shape: Shape) -> u64
     requires { ⌜ (goodLengthSDA (now t) ≡ true) × (goodSDA (now t) ≡ true) × (shape ≡ shapeOf (codeOf (now t)) (parametersOf (now t))) ⌝ }
     ensures { λ r. ⌜ EntryOf (now (t .entry)) r ⌝ }
 {
-    let size = shape.size as u64;
-    let mode = wide64(t[9]) + 256 * layout_part(shape.layout, size);
-    let code = wide64(t[3]) + 256 * mode;
-    let id = wide64(t[2]) + 256 * code;
-    length_part(shape.layout, size) + 65536 * id
+    let own = wide64(t[2]) + 256 * (wide64(t[3]) + 256 * wide64(t[9]));
+    fields::entry_of(own, shape.layout, shape.size as u64)
 }
 
 // The product by which elements taken is multiplied: 0 without extents.

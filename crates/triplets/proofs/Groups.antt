@@ -12,6 +12,7 @@ use borrow.Author.Tests.{eq-eqb, ne-eqb, leb-true, eqb-true}
 use Rattle.fdoca.specs.Basics.{lookup, _>>=_}
 use Rattle.fdoca.specs.Triplet.{threes, groupsOf}
 use Rattle.fdoca.specs.Check.{Entry, addGroup, addGroups, goodLengthRow}
+use Rattle.plans.specs.Tied.{kindOf}
 use Rattle.triplets.specs.declared.Sum.{Sum}
 use Rattle.sdas.specs.Tables.{outcome, Agrees}
 use Rattle.triplets.specs.Judged.{groupOf, GoodRow, AddedGroup, AddedGroups}
@@ -35,19 +36,19 @@ three-at t g h =
     rw (e₁, e₂, e₃, drop-cons t g 0 (omega arith), drop-cons t (suc g) 0 (omega arith), drop-cons t (suc (suc g)) 0 (omega arith))
 
 -- before the group at g: n items so far
-pub record Adding (t s z : List ℕ) (sum n g : ℕ) : Type 0 where
+pub record Adding (head : ℕ) (t s z e : List ℕ) (sum n g : ℕ) : Type 0 where
   pub small : n ≤ 4096
   pub there : g ≤ length t
   pub in-threes : (length t - g) % 3 ≡ 0
-  pub same : (p : ℕ) (es : List (ℕ × Entry)) → Agrees s z es → addGroups p es sum (groupsOf t) ≡ addGroups p es n (threes (drop g t))
+  pub same : (p : ℕ) (es : List (ℕ × Entry)) → Agrees s z e es → addGroups (kindOf head) p es sum (groupsOf t) ≡ addGroups (kindOf head) p es n (threes (drop g t))
 
-module _ (t s z : List ℕ) (sum : ℕ) where
-  pub adding-start : goodLengthRow t ≡ true → sum ≤ 4096 → Adding t s z sum sum 3
+module _ (head : ℕ) (t s z e : List ℕ) (sum : ℕ) where
+  pub adding-start : goodLengthRow t ≡ true → sum ≤ 4096 → Adding head t s z e sum sum 3
   adding-start h k =
       let w : GoodRow t = whole-groups t h in
       record { small = k; there = omega (arith, w .some-there); in-threes = omega (arith, w .some-there, w .by-three); same = λ p es a. refl }
 
-  module _ (n g : ℕ) (inv : Adding t s z sum n g) where
+  module _ (n g : ℕ) (inv : Adding head t s z e sum n g) where
     pub group-whole : g < length t → g + 3 ≤ length t
     group-whole h = omega (arith, inv .in-threes)
 
@@ -58,35 +59,35 @@ module _ (t s z : List ℕ) (sum : ℕ) where
     group-third h = omega (arith, inv .in-threes)
 
     -- the groups from g on, with what adding the one at g gave
-    step : (i : ℕ) (r : Sum) → g < length t → i ≡ getD t g 0 → i < 256 → AddedGroup (getD s i 0) (getD z i 0) (getD t (g + 1) 0) (getD t (g + 2) 0) n r
-        → (p : ℕ) (es : List (ℕ × Entry)) → Agrees s z es
-        → addGroups p es sum (groupsOf t) ≡ (outcome (r .number) p (r .count) >>= (λ m. addGroups p es m (threes (drop (g + 3) t))))
+    step : (i : ℕ) (r : Sum) → g < length t → i ≡ getD t g 0 → i < 256 → AddedGroup (kindOf head) (getD s i 0) (getD z i 0) (getD e i 0) (getD t (g + 1) 0) (getD t (g + 2) 0) n r
+        → (p : ℕ) (es : List (ℕ × Entry)) → Agrees s z e es
+        → addGroups (kindOf head) p es sum (groupsOf t) ≡ (outcome (r .number) p (r .count) >>= (λ m. addGroups (kindOf head) p es m (threes (drop (g + 3) t))))
     unfolding addGroups
-    step i r h e l a p es k =
-        let x : addGroup p n (groupOf i (getD t (g + 1) 0) (getD t (g + 2) 0)) (lookup i es) ≡ outcome (r .number) p (r .count) = a .result p i (lookup i es) (k i l) in
-        inv .same p es k ∙ rw (three-at t g (group-whole h), ← e, x)
+    step i r h q l a p es k =
+        let x : addGroup (kindOf head) p n (groupOf i (getD t (g + 1) 0) (getD t (g + 2) 0)) (lookup i es) ≡ outcome (r .number) p (r .count) = a .result p i (lookup i es) (k i l) in
+        inv .same p es k ∙ rw (three-at t g (group-whole h), ← q, x)
 
     pub adding-stop : (i : ℕ) (r : Sum) → g < length t → i ≡ getD t g 0 → i < 256
-        → AddedGroup (getD s i 0) (getD z i 0) (getD t (g + 1) 0) (getD t (g + 2) 0) n r → (r .number ≡ 0 → ⊥) → AddedGroups (groupsOf t) s z sum r
+        → AddedGroup (kindOf head) (getD s i 0) (getD z i 0) (getD e i 0) (getD t (g + 1) 0) (getD t (g + 2) 0) n r → (r .number ≡ 0 → ⊥) → AddedGroups (kindOf head) (groupsOf t) s z e sum r
     unfolding outcome
-    adding-stop i r h e l a q = record { result = λ p es k. step i r h e l a p es k ∙ simp (ne-eqb (r .number) 0 q); no-count = a .no-count; small = a .small }
+    adding-stop i r h v l a q = record { result = λ p es k. step i r h v l a p es k ∙ simp (ne-eqb (r .number) 0 q); no-count = a .no-count; small = a .small }
 
     pub adding-more : (i : ℕ) (r : Sum) → g < length t → i ≡ getD t g 0 → i < 256
-        → AddedGroup (getD s i 0) (getD z i 0) (getD t (g + 1) 0) (getD t (g + 2) 0) n r → r .number ≡ 0 → Adding t s z sum (r .count) (g + 3)
+        → AddedGroup (kindOf head) (getD s i 0) (getD z i 0) (getD e i 0) (getD t (g + 1) 0) (getD t (g + 2) 0) n r → r .number ≡ 0 → Adding head t s z e sum (r .count) (g + 3)
     unfolding outcome
-    adding-more i r h e l a q =
+    adding-more i r h v l a q =
         record {
           small = a .small;
           there = group-whole h;
           in-threes = omega (arith, inv .in-threes);
-          same = λ p es k. step i r h e l a p es k ∙ simp (eq-eqb (r .number) 0 q);
+          same = λ p es k. step i r h v l a p es k ∙ simp (eq-eqb (r .number) 0 q);
         }
 
-    pub adding-end : (r : Sum) → length t ≤ g → r ≡ record { number = 0; count = n } → AddedGroups (groupsOf t) s z sum r
+    pub adding-end : (r : Sum) → length t ≤ g → r ≡ record { number = 0; count = n } → AddedGroups (kindOf head) (groupsOf t) s z e sum r
     unfolding addGroups
-    adding-end r h e =
+    adding-end r h v =
         record {
-          result = λ p es k. inv .same p es k ∙ rw (drop-of-length-le t h, e) (found-outcome 0 p n refl);
-          no-count = λ q. absurd (q (rw e));
-          small = rw e (inv .small);
+          result = λ p es k. inv .same p es k ∙ rw (drop-of-length-le t h, v) (found-outcome 0 p n refl);
+          no-count = λ q. absurd (q (rw v));
+          small = rw v (inv .small);
         }

@@ -11,13 +11,15 @@ use lib.Dec.{ltb}
 use borrow.Author.Tests.{lt-ltb, le-ltb, eq-eqb, ne-eqb}
 use mir.Syntax.{w64}
 use mir.Val.{Fits}
-use Rattle.fdoca.specs.Basics.{ok, _>>=_, _>>_, reject}
-use Rattle.fdoca.specs.Check.{Entry, array, row, countTaken, maxItems, addGroup}
+use Rattle.fdoca.specs.Basics.{refuse, ok, _>>=_, _>>_, reject}
+use Rattle.fdoca.specs.Triplet.{Kind, rowLayout, groupArray}
+use Rattle.fdoca.specs.Check.{Entry, array, row, countTaken, goodLength, fits, maxItems, countAdded, addGroup}
 use Rattle.fdoca.proofs.Tests.{by-lt}
+use Rattle.plans.specs.Tied.{kindOf}
 use Rattle.triplets.specs.declared.Sum.{Sum}
 use Rattle.sdas.proofs.Outcomes.{below, refused-outcome}
-use Rattle.sdas.specs.Tables.{outcome, lowerOfEntry, Positive, Entered, KeptAs}
-use Rattle.triplets.specs.Judged.{groupOf, summed, AddedGroup}
+use Rattle.sdas.specs.Tables.{outcome, lowerOfEntry, Positive, Coded, Entered, KeptAs}
+use Rattle.triplets.specs.Judged.{groupOf, summed, AddedGroup, Counted, CountedRow}
 
 -- a row's count with n more items
 module _ (sum n : ℕ) (small : sum ≤ 4096) where
@@ -42,68 +44,140 @@ summed-outcome p sum n = go (ltb maxItems (sum + n)) refl
     go true e = rw e
     go false e = rw e
 
-module _ (start size taken factor sum : ℕ) (small : sum ≤ 4096) where
-  -- 8: the id is not described
-  pub group-missing : (r : Sum) → r .number ≡ 8 → r .count ≡ 0 → start ≡ 65535 → AddedGroup start size taken factor sum r
-  unfolding addGroup
-  group-missing r e z h = record { result = λ p ref x k. go p ref x k; no-count = λ q. z; small = omega arith }
-    where
-      go : (p ref : ℕ) (x : Option Entry) → KeptAs start size x → addGroup p sum (groupOf ref taken factor) x ≡ outcome (r .number) p (r .count)
-      go p ref none k = rw e (refused-outcome 8 p (r .count) (λ q. omega arith))
-      go p ref (some y) k = absurd (k .here h)
+-- a refusal of a group
+refused-entry : {kind : Kind} {size number byte1 byte2 sum : ℕ} (n : ℕ) (r : Sum) → n ≢ 0 → r .number ≡ n → r .count ≡ 0
+    → ((p ref start : ℕ) (y : Entry) → Entered start size number y → addGroup kind p sum (groupOf ref byte1 byte2) (some y) ≡ refuse n p)
+    → Counted kind size number byte1 byte2 sum r
+refused-entry n r h e z f =
+    record { result = λ p ref start y k. f p ref start y k ∙ rw e (refused-outcome n p (r .count) h); no-count = λ q. z; small = omega arith }
 
+-- a group that adds n items
+more-items : (kind : Kind) (size number byte1 byte2 sum n : ℕ) (r : Sum)
+    → ((p ref start : ℕ) (y : Entry) → Entered start size number y → countAdded kind p (groupOf ref byte1 byte2) y ≡ ok n) → r ≡ summed sum n
+    → Counted kind size number byte1 byte2 sum r
+unfolding addGroup
+more-items kind size number byte1 byte2 sum n r t e =
+    record {
+      result = λ p ref start y k. rw (t p ref start y k, e) (summed-outcome p sum n);
+      no-count = rw e (summed-none sum n);
+      small = rw e (summed-small sum n);
+    }
+
+-- a group of an RLO
+module _ (size taken factor sum : ℕ) (small : sum ≤ 4096) where
   -- 9: repetition 0
-  pub group-never : (r : Sum) → r .number ≡ 9 → r .count ≡ 0 → (start ≡ 65535 → ⊥) → factor ≡ 0 → AddedGroup start size taken factor sum r
-  unfolding addGroup
-  group-never r e z h f = record { result = λ p ref x k. go p ref x k; no-count = λ q. z; small = omega arith }
-    where
-      go : (p ref : ℕ) (x : Option Entry) → KeptAs start size x → addGroup p sum (groupOf ref taken factor) x ≡ outcome (r .number) p (r .count)
-      go p ref none k = absurd (h k)
-      go p ref (some y) k = rw (eq-eqb factor 0 f, e) (refused-outcome 9 p (r .count) (λ q. omega arith))
+  pub group-never : (r : Sum) → r .number ≡ 9 → r .count ≡ 0 → factor ≡ 0 → CountedRow size taken factor sum r
+  unfolding addGroup countAdded
+  group-never r e z f = record { counted = λ number. refused-entry 9 r (λ q. omega arith) e z (λ p ref start y k. rw (eq-eqb factor 0 f)) }
 
   -- a group that takes n items of its reference
-  added : (n : ℕ) (r : Sum) → (start ≡ 65535 → ⊥) → (factor ≡ 0 → ⊥)
-      → ((y : Entry) → Entered start size y → countTaken taken y ≡ some n) → r ≡ summed sum (factor * n) → AddedGroup start size taken factor sum r
-  unfolding addGroup
-  added n r h f t e = record { result = λ p ref x k. go p ref x k; no-count = rw e (summed-none sum (factor * n)); small = rw e (summed-small sum (factor * n)) }
-    where
-      go : (p ref : ℕ) (x : Option Entry) → KeptAs start size x → addGroup p sum (groupOf ref taken factor) x ≡ outcome (r .number) p (r .count)
-      go p ref none k = absurd (h k)
-      go p ref (some y) k = rw (ne-eqb factor 0 f, t y k, e) (summed-outcome p sum (factor * n))
+  takes : (n : ℕ) (r : Sum) → (factor ≡ 0 → ⊥) → ((start number : ℕ) (y : Entry) → Entered start size number y → countTaken taken y ≡ some n)
+      → r ≡ summed sum (factor * n) → CountedRow size taken factor sum r
+  unfolding countAdded
+  takes n r f t e =
+      record { counted = λ number. more-items rowLayout size number taken factor sum (factor * n) r (λ p ref start y k. rw (ne-eqb factor 0 f, t start number y k)) e }
 
   -- elements taken 0 keeps the reference as it is
-  pub group-all : (times count : ℕ) (r : Sum) → (start ≡ 65535 → ⊥) → (factor ≡ 0 → ⊥) → taken ≡ 0 → times ≡ factor → count ≡ size % 65536
-      → r ≡ summed sum (times * count) → AddedGroup start size taken factor sum r
-  group-all times count r h f z e c q =
-      added count r h f (λ y k. rw z (ap some (sym (k .count) ∙ sym c))) (rw e at q)
+  pub group-all : (times count : ℕ) (r : Sum) → (factor ≡ 0 → ⊥) → taken ≡ 0 → times ≡ factor → count ≡ size % 65536
+      → r ≡ summed sum (times * count) → CountedRow size taken factor sum r
+  group-all times count r f z e c q =
+      takes count r f (λ start number y k. rw z (ap some (sym (k .count) ∙ sym c))) (rw e at q)
 
-  -- 9: elements taken over an RLO, or over an SDA without extents
-  pub group-none : (lower : ℕ) (r : Sum) → r .number ≡ 9 → r .count ≡ 0 → (start ≡ 65535 → ⊥) → (factor ≡ 0 → ⊥) → (taken ≡ 0 → ⊥)
-      → lower ≡ size / 65536 → lower ≡ 0 → AddedGroup start size taken factor sum r
-  unfolding addGroup
-  group-none lower r e z h f t l w = record { result = λ p ref x k. go p ref x k; no-count = λ q. z; small = omega arith }
+  -- 9: elements taken over an RLO, a GDA or an SDA without extents
+  pub group-none : (lower : ℕ) (r : Sum) → r .number ≡ 9 → r .count ≡ 0 → (factor ≡ 0 → ⊥) → (taken ≡ 0 → ⊥) → lower ≡ size / 65536 → lower ≡ 0
+      → CountedRow size taken factor sum r
+  unfolding addGroup countAdded
+  group-none lower r e z f t l w = record { counted = λ number. refused-entry 9 r (λ q. omega arith) e z (λ p ref start y k. go number start p ref y k) }
     where
       taking : (k : ℕ) (y : Entry) → (k ≡ 0 → ⊥) → lowerOfEntry y ≡ 0 → Positive y → countTaken k y ≡ none
       taking zero y a b c = absurd (a refl)
-      taking (suc k) (array []) a b c = refl
-      taking (suc k) (array (x ∷ xs)) a b c = absurd (let q : ⊥ = omega arith in q)
+      taking (suc k) (array v []) a b c = refl
+      taking (suc k) (array v (x ∷ xs)) a b c = absurd (let q : ⊥ = omega arith in q)
       taking (suc k) (row n) a b c = refl
 
-      go : (p ref : ℕ) (x : Option Entry) → KeptAs start size x → addGroup p sum (groupOf ref taken factor) x ≡ outcome (r .number) p (r .count)
-      go p ref none k = absurd (h k)
-      go p ref (some y) k =
-          rw (ne-eqb factor 0 f, taking taken y t (sym (k .lower) ∙ sym l ∙ w) (k .positive), e) (refused-outcome 9 p (r .count) (λ q. omega arith))
+      go : (number start p ref : ℕ) (y : Entry) → Entered start size number y → addGroup rowLayout p sum (groupOf ref taken factor) (some y) ≡ refuse 9 p
+      go number start p ref y k = rw (ne-eqb factor 0 f, taking taken y t (sym (k .lower) ∙ sym l ∙ w) (k .positive))
 
   -- elements taken stands for the highest extent
-  pub group-some : (times taking lower : ℕ) (r : Sum) → (start ≡ 65535 → ⊥) → (factor ≡ 0 → ⊥) → (taken ≡ 0 → ⊥) → times ≡ factor → taking ≡ taken
-      → lower ≡ size / 65536 → (lower ≡ 0 → ⊥) → r ≡ summed sum (times * (taking * lower)) → AddedGroup start size taken factor sum r
-  group-some times taking lower r h f t e g l w q = added (taken * lower) r h f (λ y k. go taken y t (l ∙ k .lower)) (rw (e, g) at q)
+  pub group-some : (times taking lower : ℕ) (r : Sum) → (factor ≡ 0 → ⊥) → (taken ≡ 0 → ⊥) → times ≡ factor → taking ≡ taken → lower ≡ size / 65536
+      → (lower ≡ 0 → ⊥) → r ≡ summed sum (times * (taking * lower)) → CountedRow size taken factor sum r
+  group-some times taking lower r f t e g l w q = takes (taken * lower) r f (λ start number y k. go taken y t (l ∙ k .lower)) (rw (e, g) at q)
     where
       go : (k : ℕ) (y : Entry) → (k ≡ 0 → ⊥) → lower ≡ lowerOfEntry y → countTaken k y ≡ some (k * lower)
       go zero y a b = absurd (a refl)
-      go (suc k) (array []) a b = absurd (w b)
-      go (suc k) (array (x ∷ xs)) a b = rw b
+      go (suc k) (array v []) a b = absurd (w b)
+      go (suc k) (array v (x ∷ xs)) a b = rw b
       go (suc k) (row n) a b = absurd (w b)
+
+-- a group of a GDA
+module _ (size number a b sum : ℕ) (small : sum ≤ 4096) where
+  -- 21: what it refers to does not fit
+  unfit : (r : Sum) → r .number ≡ 21 → r .count ≡ 0 → ((ref start : ℕ) (y : Entry) → Entered start size number y → fits (groupOf ref a b) y ≡ false)
+      → Counted groupArray size number a b sum r
+  unfolding addGroup countAdded
+  unfit r e z f = refused-entry 21 r (λ q. omega arith) e z (λ p ref start y k. rw (f ref start y k))
+
+  -- an RLO or a GDA
+  pub column-row : (r : Sum) → r .number ≡ 21 → r .count ≡ 0 → number ≡ 0 → Counted groupArray size number a b sum r
+  column-row r e z n = unfit r e z (λ ref start y k. go ref y (k .coded))
+    where
+      go : (ref : ℕ) (y : Entry) → Coded number y → fits (groupOf ref a b) y ≡ false
+      go ref (array c []) k = absurd (let q : ⊥ = omega (arith, k .0) in q)
+      go ref (array c (x ∷ xs)) k = refl
+      go ref (row m) k = refl
+
+  -- an SDA with extents
+  pub column-extents : (lower : ℕ) (r : Sum) → r .number ≡ 21 → r .count ≡ 0 → lower ≡ size / 65536 → (lower ≡ 0 → ⊥) → Counted groupArray size number a b sum r
+  column-extents lower r e z l n = unfit r e z (λ ref start y k. go ref y (sym (k .lower)))
+    where
+      go : (ref : ℕ) (y : Entry) → lowerOfEntry y ≡ size / 65536 → fits (groupOf ref a b) y ≡ false
+      go ref (array c []) k = absurd (n (l ∙ sym k))
+      go ref (array c (x ∷ xs)) k = refl
+      go ref (row m) k = refl
+
+  -- an SDA without extents, of the type code at hand
+  module _ (lower code : ℕ) (good : Bool) (n : number ≡ 0 → ⊥) (l : lower ≡ size / 65536) (w : lower ≡ 0) (c : code ≡ number / 16777216 % 256)
+      (g : good ≡ goodLength code a b) where
+    single : (ref start : ℕ) (y : Entry) → Entered start size number y → fits (groupOf ref a b) y ≡ good
+    single ref start y k = go y (sym (k .lower)) (k .positive) (k .coded)
+      where
+        go : (y : Entry) → lowerOfEntry y ≡ size / 65536 → Positive y → Coded number y → fits (groupOf ref a b) y ≡ good
+        go (array v []) o p k = rw (← k .1, ← c) (sym g)
+        go (array v (x ∷ xs)) o p k = absurd (let q : ⊥ = omega arith in q)
+        go (row m) o p k = absurd (n k)
+
+    pub column-unsuited : (r : Sum) → r .number ≡ 21 → r .count ≡ 0 → good ≡ false → Counted groupArray size number a b sum r
+    column-unsuited r e z f = unfit r e z (λ ref start y k. single ref start y k ∙ f)
+
+    pub column-added : (r : Sum) → good ≡ true → r ≡ summed sum 1 → Counted groupArray size number a b sum r
+    unfolding countAdded
+    column-added r f e = more-items groupArray size number a b sum 1 r (λ p ref start y k. rw (single ref start y k ∙ f)) e
+
+-- a group by the construct type of the row's head
+module _ (head start size number a b sum : ℕ) (r : Sum) where
+  -- 8: the id is not described
+  pub group-missing : r .number ≡ 8 → r .count ≡ 0 → start ≡ 65535 → AddedGroup (kindOf head) start size number a b sum r
+  unfolding addGroup
+  group-missing e z h = record { result = λ p ref x k. go p ref x k; no-count = λ q. z; small = omega arith }
+    where
+      go : (p ref : ℕ) (x : Option Entry) → KeptAs start size number x → addGroup (kindOf head) p sum (groupOf ref a b) x ≡ outcome (r .number) p (r .count)
+      go p ref none k = rw e (refused-outcome 8 p (r .count) (λ q. omega arith))
+      go p ref (some y) k = absurd (k .here h)
+
+  described : (kind : Kind) → (start ≡ 65535 → ⊥) → Counted kind size number a b sum r → AddedGroup kind start size number a b sum r
+  described kind h c = record { result = λ p ref x k. go p ref x k; no-count = c .no-count; small = c .small }
+    where
+      go : (p ref : ℕ) (x : Option Entry) → KeptAs start size number x → addGroup kind p sum (groupOf ref a b) x ≡ outcome (r .number) p (r .count)
+      go p ref none k = absurd (h k)
+      go p ref (some y) k = c .result p ref start y k
+
+  pub of-array : (start ≡ 65535 → ⊥) → head ≡ 0x75 → Counted groupArray size number a b sum r → AddedGroup (kindOf head) start size number a b sum r
+  unfolding kindOf
+  of-array h q c = rw q (described groupArray h c)
+
+  pub of-row : (start ≡ 65535 → ⊥) → (head ≡ 0x75 → ⊥) → CountedRow size a b sum r → AddedGroup (kindOf head) start size number a b sum r
+  unfolding kindOf
+  of-row h q c = rw (ne-eqb head 0x75 q) (described rowLayout h (c .counted number))
 
 -- products of a group fit
 module _ (a b c : ℕ) where

@@ -1,15 +1,22 @@
-// One RLO, CPT or ISD of a descriptor: the first reason to refuse it, or what a row counts with it.
+// One RLO, GDA, CPT or ISD of a descriptor: the first reason to refuse it, or what a row counts with it.
 ghost use mathlib.Core.Path.{_≡_};
 ghost use Prim.Native.Nat.{_/_, _%_, _≤_, _<_};
 ghost use mathlib.Core.Bool.{true};
 ghost use mathlib.Core.List.{[], _∷_};
-ghost use Rattle.fdoca.specs.Triplet.{groupsOf};
+ghost use Rattle.fdoca.specs.Triplet.{groupArray, groupsOf};
 ghost use Rattle.fdoca.specs.Basics.{elem};
 ghost use Rattle.fdoca.specs.Check.{goodLengthRow, goodLengthISD, goodISD};
 ghost use Rattle.sdas.specs.Tables.{Agreeing};
-ghost use Rattle.triplets.specs.Judged.{summed, AddedGroup, AddedGroups, JudgedRLO, JudgedCPT, JudgedISD};
+ghost use Rattle.plans.specs.Tied.{kindOf};
+ghost use Rattle.triplets.specs.Judged.{summed, Counted, CountedRow, AddedGroup, AddedGroups, JudgedRow, JudgedCPT, JudgedISD};
 use sdas::MOST;
 use sdas::NOWHERE;
+
+// The construct type of a GDA.
+pub const GDA: u8 = 0x75;
+
+// By what the number of a field is divided, so that its type code stands lowest.
+const CODE: u64 = 16777216;
 
 // A count of items, or the number of the refusal that stands in its way.
 pub struct Sum {
@@ -39,7 +46,7 @@ fn high(size: u32) -> usize
     (size / 65536) as usize
 }
 
-// LENGTH of an RLO or a CPT: 3 plus a positive multiple of 3.
+// LENGTH of an RLO, a GDA or a CPT: 3 plus a positive multiple of 3.
 fn row_length(t: &[u8]) -> bool
     ensures { λ r. ⌜ r ≡ goodLengthRow (now (t .entry)) ⌝ }
 {
@@ -67,15 +74,11 @@ fn total(sum: usize, n: usize) -> Sum
     }
 }
 
-// A row's count with one more group, or the number of the group's refusal. `start` and `size` are what the tables have for the id that it
-// refers to.
-fn add_group(start: u16, size: u32, taken: u8, factor: u8, sum: usize) -> Sum
+// The count of an RLO with one more group, or the number of the group's refusal. `size` is what the tables have for the id that it refers to.
+fn add_elements(size: u32, taken: u8, factor: u8, sum: usize) -> Sum
     requires { ⌜ sum ≤ 4096 ⌝ }
-    ensures { λ r. ⌜ AddedGroup start size taken factor sum r ⌝ }
+    ensures { λ r. ⌜ CountedRow size taken factor sum r ⌝ }
 {
-    if start == NOWHERE {
-        return refusal(8);
-    }
     if factor == 0 {
         return refusal(9);
     }
@@ -92,16 +95,65 @@ fn add_group(start: u16, size: u32, taken: u8, factor: u8, sum: usize) -> Sum
     total(sum, times * part)
 }
 
-// A row's count with the groups of an RLO or a CPT, or the number of the first refusal among them.
-fn add_groups(t: &[u8], starts: &[u16; 256], sizes: &[u32; 256], sum: usize) -> Sum
+// The count of a GDA with one more group, or the number of the group's refusal. `number` is that of an SDA's field, and has its type code; 0 is
+// no SDA's. `a` and `b` are the two bytes of the length.
+fn add_column(size: u32, number: u64, a: u8, b: u8, sum: usize) -> Sum
+    requires { ⌜ sum ≤ 4096 ⌝ }
+    ensures { λ r. ⌜ Counted groupArray size number a b sum r ⌝ }
+{
+    if number == 0 {
+        return refusal(21);
+    }
+    let extents = high(size);
+    if extents != 0 {
+        return refusal(21);
+    }
+    let code = (number / CODE % 256) as u8;
+    if !field_types::good_length(code, a, b) {
+        return refusal(21);
+    }
+    total(sum, 1)
+}
+
+// A row's count with one more group, by the construct type of the row's head. `start` tells whether the id is described.
+fn add_group(head: u8, start: u16, size: u32, number: u64, a: u8, b: u8, sum: usize) -> Sum
+    requires { ⌜ sum ≤ 4096 ⌝ }
+    ensures { λ r. ⌜ AddedGroup (kindOf head) start size number a b sum r ⌝ }
+{
+    if start == NOWHERE {
+        return refusal(8);
+    }
+    if head == GDA {
+        return add_column(size, number, a, b, sum);
+    }
+    add_elements(size, a, b, sum)
+}
+
+// A row's count with the groups of a triplet of it, or the number of the first refusal among them.
+fn add_groups(
+    t: &[u8],
+    head: u8,
+    starts: &[u16; 256],
+    sizes: &[u32; 256],
+    entries: &[u64; 256],
+    sum: usize,
+) -> Sum
     requires { ⌜ (goodLengthRow (now t) ≡ true) × (sum ≤ 4096) ⌝ }
-    ensures { λ r. ⌜ AddedGroups (groupsOf (now (t .entry))) (now (starts .entry)) (now (sizes .entry)) sum r ⌝ }
+    ensures { λ r. ⌜ AddedGroups (kindOf head) (groupsOf (now (t .entry))) (now (starts .entry)) (now (sizes .entry)) (now (entries .entry)) sum r ⌝ }
 {
     let mut n = sum;
     let mut g = 3;
     while g < t.len() {
         let id = numbers::wide(t[g]);
-        let added = add_group(starts[id], sizes[id], t[g + 1], t[g + 2], n);
+        let added = add_group(
+            head,
+            starts[id],
+            sizes[id],
+            entries[id],
+            t[g + 1],
+            t[g + 2],
+            n,
+        );
         if added.number != 0 {
             return added;
         }
@@ -114,14 +166,15 @@ fn add_groups(t: &[u8], starts: &[u16; 256], sizes: &[u32; 256], sum: usize) -> 
     }
 }
 
-// An RLO's count, or the number of its refusal.
-pub fn judge_rlo(t: &[u8], starts: &[u16; 256], sizes: &[u32; 256]) -> Sum
-    requires { ⌜ Agreeing (now starts) (now sizes) ⌝ }
-    ensures { λ r. ⌜ JudgedRLO (now (t .entry)) (now (starts .entry)) (now (sizes .entry)) r ⌝ }
+// The count of an RLO or a GDA, or the number of its refusal.
+pub fn judge_row(t: &[u8], starts: &[u16; 256], sizes: &[u32; 256], entries: &[u64; 256]) -> Sum
+    requires { ⌜ Agreeing (now starts) (now sizes) (now entries) ⌝ }
+    ensures { λ r. ⌜ JudgedRow (now (t .entry)) (now (starts .entry)) (now (sizes .entry)) (now (entries .entry)) r ⌝ }
 {
     if !row_length(t) {
         return refusal(5);
     }
+    let head = t[1];
     if t[2] == 0 {
         return refusal(6);
     }
@@ -129,13 +182,20 @@ pub fn judge_rlo(t: &[u8], starts: &[u16; 256], sizes: &[u32; 256]) -> Sum
     if starts[own] != NOWHERE {
         return refusal(7);
     }
-    add_groups(t, starts, sizes, 0)
+    add_groups(t, head, starts, sizes, entries, 0)
 }
 
-// The count of a row of `sum` items with those of a CPT, or the number of its refusal.
-pub fn judge_cpt(t: &[u8], starts: &[u16; 256], sizes: &[u32; 256], sum: usize) -> Sum
-    requires { ⌜ Agreeing (now starts) (now sizes) × (sum ≤ 4096) ⌝ }
-    ensures { λ r. ⌜ JudgedCPT (now (t .entry)) (now (starts .entry)) (now (sizes .entry)) sum r ⌝ }
+// The count of a row of `sum` items with those of a CPT, or the number of its refusal. `head` is the construct type of the row's head.
+pub fn judge_cpt(
+    t: &[u8],
+    head: u8,
+    starts: &[u16; 256],
+    sizes: &[u32; 256],
+    entries: &[u64; 256],
+    sum: usize,
+) -> Sum
+    requires { ⌜ Agreeing (now starts) (now sizes) (now entries) × (sum ≤ 4096) ⌝ }
+    ensures { λ r. ⌜ JudgedCPT (kindOf head) (now (t .entry)) (now (starts .entry)) (now (sizes .entry)) (now (entries .entry)) sum r ⌝ }
 {
     if !row_length(t) {
         return refusal(5);
@@ -143,7 +203,7 @@ pub fn judge_cpt(t: &[u8], starts: &[u16; 256], sizes: &[u32; 256], sum: usize) 
     if t[2] != 0 {
         return refusal(6);
     }
-    add_groups(t, starts, sizes, sum)
+    add_groups(t, head, starts, sizes, entries, sum)
 }
 
 // LENGTH of an ISD.

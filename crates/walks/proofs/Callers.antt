@@ -14,11 +14,12 @@ use Rattle.fdoca.specs.Calls.{stateOf}
 use Rattle.fdoca.proofs.Results.{IfOk, none-owed, holds, bind-all, reject-all, itself, ok-of}
 use Rattle.fdoca.specs.Cover.{sum, positions, lengths}
 use Rattle.fdoca.proofs.Cover.{walk-covers}
-use Rattle.plans.specs.Plan.{digitsPart, entryOf, Proper, Planned, empty, entry}
+use Rattle.fields.specs.Plan.{digitsPart, entryOf, Proper, Planned, empty, entry}
 use Rattle.walks.specs.declared.Found.{Found}
 use Rattle.walks.specs.Marks.{markOf, marksFrom, Noted, nothing, item}
 use Rattle.walks.specs.Finding.{foundOf, itemOf, stateFound}
-use Rattle.walks.proofs.Parts.{code-part, digits-part}
+use Rattle.fields.proofs.Parts.{entry-code}
+use Rattle.walks.proofs.Parts.{digits-part}
 
 planned-length : {es : List ℕ} {fs : List Field} → Planned es fs → length es ≡ length fs
 planned-length empty = refl
@@ -95,9 +96,7 @@ inside-of s (ok n) (holds h) = omega (arith, h .inside)
 state-of : (s : List ℕ) (x : Result Note) → IfOk (Sound s) x → stateFound (foundOf x) ≡ stateOf x
 unfolding foundOf
 state-of s (refuse n p) h = refl
-state-of s (ok n) (holds h) =
-    let z : entryOf (n .field) / 16777216 % 256 ≡ n .field .code = omega (arith, code-part (n .field) 0 (h .proper)) in
-    rw z
+state-of s (ok n) (holds h) = rw (entry-code (n .field) (h .proper))
 
 module _ (es : List ℕ) (fs : List Field) (s : List ℕ) (k : ℕ) (r : Found) (p : Planned es fs) (h : r ≡ foundOf (itemOf fs s k)) where
   pub found-inside : r .start + r .prefix + r .value ≤ length s

@@ -16,7 +16,7 @@ use Rattle.field_types.specs.Rows.{layoutOf}
 use Rattle.terminated.specs.declared.Measured.{Measured}
 use Rattle.terminated.specs.Answer.{answer}
 use Rattle.items.proofs.Inside.{Numbered, numbered-item, is-item, is-refused, inside-at}
-use Rattle.plans.specs.Plan.{entryOf, Proper, Planned, empty, entry}
+use Rattle.fields.specs.Plan.{entryOf, Proper, Planned, empty, entry}
 use Rattle.walks.specs.Entry.{measureEntry}
 use Rattle.walks.specs.Marks.{markOf, marksFrom}
 use Rattle.walks.proofs.Parts.{entry-measures}

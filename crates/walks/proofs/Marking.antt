@@ -12,7 +12,7 @@ use Rattle.fdoca.specs.Item.{Field}
 use Rattle.fdoca.specs.Walk.{Note, walk}
 use Rattle.terminated.specs.declared.Measured.{Measured}
 use Rattle.terminated.specs.Answer.{answer}
-use Rattle.plans.specs.Plan.{Planned}
+use Rattle.fields.specs.Plan.{Planned}
 use Rattle.walks.specs.declared.Stop.{Stop}
 use Rattle.walks.specs.Entry.{measureEntry, Stepped}
 use Rattle.walks.specs.Marks.{stopOf, markOf, marksFrom, Marked}

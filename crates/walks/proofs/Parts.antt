@@ -8,7 +8,7 @@ use Rattle.fdoca.specs.FieldType.{ruleOf}
 use Rattle.fdoca.specs.Item.{Field, fieldLength, measure}
 use Rattle.field_types.specs.Rows.{prefixOf}
 use Rattle.field_types.proofs.Rows.{layout-back, prefix-below-4}
-use Rattle.plans.specs.Plan.{digitsPart, entryOf, Proper}
+use Rattle.fields.specs.Plan.{digitsPart, entryOf, Proper}
 use Rattle.walks.specs.Entry.{measureEntry}
 
 -- the parts of the entry of f with the mark p, which is 0 in a plan that no walk has marked

@@ -17,7 +17,7 @@ use Rattle.fdoca.proofs.Table.{past-end}
 use Rattle.field_types.specs.Rows.{layoutOf}
 use Rattle.items.specs.declared.Parts.{Parts}
 use Rattle.items.specs.Known.{Good, PartsOf}
-use Rattle.plans.specs.Plan.{entryOf, Planned}
+use Rattle.fields.specs.Plan.{entryOf, Planned}
 use Rattle.walks.specs.declared.Stop.{Stop}
 use Rattle.walks.specs.declared.Found.{Found}
 use Rattle.walks.specs.Entry.{measureEntry}

@@ -9,7 +9,7 @@ use Rattle.fdoca.specs.Basics.{Result, refuse, ok, _>>=_, the}
 use Rattle.fdoca.specs.Item.{Field}
 use Rattle.fdoca.specs.Walk.{Note, walk}
 use Rattle.fdoca.specs.Between.{Stands}
-use Rattle.plans.specs.Plan.{entryOf, Proper, Planned}
+use Rattle.fields.specs.Plan.{entryOf, Proper, Planned}
 use Rattle.walks.specs.declared.Found.{Found}
 use Rattle.walks.specs.Marks.{markOf}
 

@@ -6,7 +6,7 @@ use lib.ListN.{length, drop}
 use Rattle.fdoca.specs.Basics.{Result, refuse, ok}
 use Rattle.fdoca.specs.Item.{Field, measure}
 use Rattle.fdoca.specs.Walk.{Note, itemLength, noteOf, walk}
-use Rattle.plans.specs.Plan.{entryOf, Proper}
+use Rattle.fields.specs.Plan.{entryOf, Proper}
 use Rattle.walks.specs.declared.Stop.{Stop}
 
 unfoldable pub stopOf : Result (List Note) → Stop

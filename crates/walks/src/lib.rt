@@ -6,7 +6,7 @@ ghost use lib.ListN.{length, drop};
 ghost use Rattle.fdoca.specs.Basics.{refuse};
 ghost use Rattle.fdoca.specs.Item.{Field};
 ghost use Rattle.terminated.specs.Answer.{answer};
-ghost use Rattle.plans.specs.Plan.{Planned};
+ghost use Rattle.fields.specs.Plan.{Planned};
 ghost use Rattle.walks.specs.Entry.{measureEntry, isPlain, Stepped};
 ghost use Rattle.walks.specs.Marks.{marksFrom, Marked, listBy};
 ghost use Rattle.walks.specs.Finding.{foundOf, itemOf, IsPlan, IsMark, FoundBy};

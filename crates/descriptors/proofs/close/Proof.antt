@@ -1,14 +1,13 @@
 use Rattle.descriptors.proofs.Closing.{close-row, close-none, row-long, row-before, held-small}
-use borrow.Author.Tests.{not-true, not-false}
 use borrow.Author.Needs.{needs}
 use Rattle.descriptors.proofs.close.Statement.{statement}
 use Rattle.descriptors.proofs.close.Tie as tie
 
 returns : tie.Need-returns
-returns c = search (close-none, not-true)
+returns c = search (close-none)
 
 row-place-requires : tie.Need-row-place-requires
-row-place-requires c κs = search (needs, row-long, row-before, held-small, not-false)
+row-place-requires c κs = search (needs, row-long, row-before, held-small)
 
 wide-requires : tie.Need-wide-requires
 wide-requires c κs = search needs
@@ -35,7 +34,7 @@ element-write-entries : tie.Need-element-write-entries
 element-write-entries c = search needs
 
 returns-2 : tie.Need-returns-2
-returns-2 c = search (close-row, not-false)
+returns-2 c = search (close-row)
 
 pub close-spec : {M : Type 1} → statement M
 close-spec =

@@ -21,11 +21,8 @@ no-shape-requires-2 c κs = search needs
 returns-2 : tie.Need-returns-2
 returns-2 c = search (shape-not, unused-set, not-true)
 
-plain-code-requires : tie.Need-plain-code-requires
-plain-code-requires c κs = search needs
-
-rule-at-requires : tie.Need-rule-at-requires
-rule-at-requires c κs = search needs
+rule-of-requires : tie.Need-rule-of-requires
+rule-of-requires c κs = search needs
 
 shared-slice-read-wide : tie.Need-shared-slice-read-wide
 shared-slice-read-wide c = search needs
@@ -81,8 +78,7 @@ shape-of-spec =
     unused-zero-requires
     no-shape-requires-2
     returns-2
-    plain-code-requires
-    rule-at-requires
+    rule-of-requires
     shared-slice-read-wide
     wide-requires
     mul-given

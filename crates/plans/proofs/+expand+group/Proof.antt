@@ -8,7 +8,7 @@ use borrow.Author.Needs.{needs}
 use lib.ListN.{length, getD}
 use Rattle.plans.specs.Writing.{groupAt}
 use Rattle.plans.proofs.Rows.{Going, start, within, refers, down, off, room, more, over, finish-place, finish-written}
-use Rattle.plans.proofs.Referred.{sda-room, sda-fits, sda-place, sda-written, row-made, row-room, copies-room, row-place, row-written}
+use Rattle.plans.proofs.Referred.{column-found, column-room, array-place, array-written, row-repeats, sda-room, sda-fits, sda-place, sda-written, row-made, row-room, copies-room, row-place, row-written}
 use borrow.Fn.Kinds.{In}
 use borrow.Fn.PlainCycle.{Measures, is, falls, and}
 use Rattle.plans.proofs.expand.Reads as expand
@@ -17,6 +17,7 @@ use Rattle.plans.proofs.+expand+group.Lts-expand as expand-lts
 use Rattle.plans.proofs.group.Reads as group
 use Rattle.plans.proofs.group.Kinds as group-kinds
 use Rattle.plans.proofs.+expand+group.Lts-group as group-lts
+use Rattle.plans.proofs.column.Reads as column-reads
 use Rattle.plans.proofs.copies.Reads as copies-reads
 use Rattle.plans.proofs.cpt_end.Reads as cpt-end-reads
 use Rattle.plans.proofs.fill.Reads as fill-reads
@@ -48,13 +49,19 @@ expand-given t = (group-below t, group.Post, cpt-end-reads.Asked, cpt-end-reads.
 
 abbrev group-given : ℕ → group-lts.Claims
 group-given t =
-    (expand-below t, expand.Post, copies-reads.Asked, copies-reads.Learnt, taken-count-reads.Asked, taken-count-reads.Learnt, fill-reads.Asked, fill-reads.Learnt)
+    (column-reads.Asked, column-reads.Learnt, expand-below t, expand.Post, copies-reads.Asked, copies-reads.Learnt, taken-count-reads.Asked, taken-count-reads.Learnt, fill-reads.Asked, fill-reads.Learnt)
 
 abbrev expand-Inv-loop : expand-lts.InvT-loop
-expand-Inv-loop desc starts sizes entries plan₀ p at a₀ g₀ end₀ plan a g end = Going desc starts p at plan₀ plan a g end
+expand-Inv-loop desc starts sizes entries plan₀ p at kind a₀ g₀ end₀ plan a g end = Going desc starts p at kind plan₀ plan a g end
 
 abbrev expand-μ-loop : expand-lts.MeasureT-loop
-expand-μ-loop desc starts sizes entries plan₀ p at a₀ g₀ end₀ plan a g end = length desc + 3 - g
+expand-μ-loop desc starts sizes entries plan₀ p at kind a₀ g₀ end₀ plan a g end = length desc + 3 - g
+
+expand-add-kind : (t : ℕ) → expand-lts.Need-add-kind (expand-given t) (expand-at t) expand.Post expand-Inv-loop expand-μ-loop
+expand-add-kind t c = search needs
+
+expand-shared-slice-read-kind : (t : ℕ) → expand-lts.Need-shared-slice-read-kind (expand-given t) (expand-at t) expand.Post expand-Inv-loop expand-μ-loop
+expand-shared-slice-read-kind t c = search needs
 
 expand-add-g : (t : ℕ) → expand-lts.Need-add-g (expand-given t) (expand-at t) expand.Post expand-Inv-loop expand-μ-loop
 expand-add-g t c = search needs
@@ -63,10 +70,10 @@ expand-shared-slice-read-end : (t : ℕ) → expand-lts.Need-shared-slice-read-e
 expand-shared-slice-read-end t c = search needs
 
 expand-cast-end : (t : ℕ) → expand-lts.Need-cast-end (expand-given t) (expand-at t) expand.Post expand-Inv-loop expand-μ-loop
-expand-cast-end t c = omega (arith, c .shared-slice-known2 .given (c .before .before .before .args .p))
+expand-cast-end t c = omega (arith, c .shared-slice-known3 .given (c .before .before .before .before .args .p))
 
 expand-add-end : (t : ℕ) → expand-lts.Need-add-end (expand-given t) (expand-at t) expand.Post expand-Inv-loop expand-μ-loop
-expand-add-end t c = omega (arith, c .shared-slice-known2 .given (c .before .before .before .args .p))
+expand-add-end t c = omega (arith, c .shared-slice-known3 .given (c .before .before .before .before .args .p))
 
 expand-loop-holds : (t : ℕ) → expand-lts.Need-loop-holds (expand-given t) (expand-at t) expand.Post expand-Inv-loop expand-μ-loop
 expand-loop-holds t c = search start
@@ -92,6 +99,15 @@ expand-loop-less t c = search needs
 expand-loop-again : (t : ℕ) → expand-lts.Need-loop-again (expand-given t) (expand-at t) expand.Post expand-Inv-loop expand-μ-loop
 expand-loop-again t c = ⊎-elim (λ w. rw (w .5, w .6, w .7) (search more)) (λ w. rw (w .3, w .4, w .5) (search over)) (c .if1 .came)
 
+group-column-requires : (t : ℕ) → group-lts.Need-column-requires (group-given t) (group-at t) group.Post
+group-column-requires t c κs = search (column-found, column-room)
+
+group-same-length : (t : ℕ) → group-lts.Need-same-length (group-given t) (group-at t) group.Post
+group-same-length t c = search needs
+
+group-returns : (t : ℕ) → group-lts.Need-returns (group-given t) (group-at t) group.Post
+group-returns t c = search (array-place, array-written)
+
 group-shared-slice-read-id : (t : ℕ) → group-lts.Need-shared-slice-read-id (group-given t) (group-at t) group.Post
 group-shared-slice-read-id t c = search needs
 
@@ -112,7 +128,7 @@ group-shared-slice-read-factor : (t : ℕ) → group-lts.Need-shared-slice-read-
 group-shared-slice-read-factor t c = search needs
 
 group-cast-factor : (t : ℕ) → group-lts.Need-cast-factor (group-given t) (group-at t) group.Post
-group-cast-factor t c = omega (arith, c .shared-slice-known4 .given (c .before .before .before .before .before .args .g + 2))
+group-cast-factor t c = omega (arith, c .shared-slice-known4 .given (c .before .before .before .before .before .before .args .g + 2))
 
 group-mul-entry : (t : ℕ) → group-lts.Need-mul-entry (group-given t) (group-at t) group.Post
 unfolding groupAt
@@ -138,17 +154,16 @@ group-expand-requires : (t : ℕ) → group-lts.Need-expand-requires (group-give
 group-expand-requires t c κs = search (off, row-made, row-room)
 
 group-sub-copies : (t : ℕ) → group-lts.Need-sub-copies (group-given t) (group-at t) group.Post
-unfolding groupAt
-group-sub-copies t c = omega arith
+group-sub-copies t c = search row-repeats
 
 group-copies-requires : (t : ℕ) → group-lts.Need-copies-requires (group-given t) (group-at t) group.Post
 group-copies-requires t c κs = (omega arith, search copies-room)
 
-group-same-length : (t : ℕ) → group-lts.Need-same-length (group-given t) (group-at t) group.Post
-group-same-length t c = search needs
+group-same-length-2 : (t : ℕ) → group-lts.Need-same-length-2 (group-given t) (group-at t) group.Post
+group-same-length-2 t c = search needs
 
-group-returns : (t : ℕ) → group-lts.Need-returns (group-given t) (group-at t) group.Post
-group-returns t c = search (row-place, row-written)
+group-returns-2 : (t : ℕ) → group-lts.Need-returns-2 (group-given t) (group-at t) group.Post
+group-returns-2 t c = search (row-place, row-written)
 
 group-mul-taken-count : (t : ℕ) → group-lts.Need-mul-taken-count (group-given t) (group-at t) group.Post
 unfolding groupAt
@@ -167,11 +182,11 @@ group-mul-n t c = search sda-fits
 group-fill-requires : (t : ℕ) → group-lts.Need-fill-requires (group-given t) (group-at t) group.Post
 group-fill-requires t c κs = search sda-room
 
-group-same-length-2 : (t : ℕ) → group-lts.Need-same-length-2 (group-given t) (group-at t) group.Post
-group-same-length-2 t c = search needs
+group-same-length-3 : (t : ℕ) → group-lts.Need-same-length-3 (group-given t) (group-at t) group.Post
+group-same-length-3 t c = search needs
 
-group-returns-2 : (t : ℕ) → group-lts.Need-returns-2 (group-given t) (group-at t) group.Post
-group-returns-2 t c = search (sda-place, sda-written)
+group-returns-3 : (t : ℕ) → group-lts.Need-returns-3 (group-given t) (group-at t) group.Post
+group-returns-3 t c = search (sda-place, sda-written)
 
 pub +expand+group-spec : {M : Type 1} → statement M
 +expand+group-spec = close μ-expand μ-group (λ t. expand-lts.spec
@@ -180,6 +195,8 @@ pub +expand+group-spec : {M : Type 1} → statement M
     expand.Post
     expand-Inv-loop
     expand-μ-loop
+    (expand-add-kind t)
+    (expand-shared-slice-read-kind t)
     (expand-add-g t)
     (expand-shared-slice-read-end t)
     (expand-cast-end t)
@@ -196,6 +213,9 @@ pub +expand+group-spec : {M : Type 1} → statement M
     (group-given t)
     (group-at t)
     group.Post
+    (group-column-requires t)
+    (group-same-length t)
+    (group-returns t)
     (group-shared-slice-read-id t)
     (group-cast-id t)
     (group-add-taken t)
@@ -211,12 +231,12 @@ pub +expand+group-spec : {M : Type 1} → statement M
     (group-expand-requires t)
     (group-sub-copies t)
     (group-copies-requires t)
-    (group-same-length t)
-    (group-returns t)
+    (group-same-length-2 t)
+    (group-returns-2 t)
     (group-mul-taken-count t)
     (group-element-copy-out-taken-count t)
     (group-taken-count-requires t)
     (group-mul-n t)
     (group-fill-requires t)
-    (group-same-length-2 t)
-    (group-returns-2 t)
+    (group-same-length-3 t)
+    (group-returns-3 t)

@@ -1,60 +1,25 @@
-use Rattle.triplets.proofs.Sums.{group-missing, group-never, group-all, group-none, group-some, all-fits, some-fits}
+use Rattle.triplets.proofs.Sums.{group-missing, of-array, of-row}
 use borrow.Author.Needs.{needs}
 use Rattle.triplets.proofs.add_group.Statement.{statement}
 use Rattle.triplets.proofs.add_group.Tie as tie
-
-ruleset ways = (group-missing, group-never, group-all, group-none, group-some)
 
 refusal-requires : tie.Need-refusal-requires
 refusal-requires c κs = search needs
 
 returns : tie.Need-returns
-returns c = search ways
+returns c = search group-missing
 
-refusal-requires-2 : tie.Need-refusal-requires-2
-refusal-requires-2 c κs = search needs
+add-column-requires : tie.Need-add-column-requires
+add-column-requires c κs = search needs
 
 returns-2 : tie.Need-returns-2
-returns-2 c = search ways
+returns-2 c = search of-array
 
-wide-requires : tie.Need-wide-requires
-wide-requires c κs = search needs
-
-low-requires : tie.Need-low-requires
-low-requires c κs = search needs
-
-mul-total : tie.Need-mul-total
-mul-total c = search (all-fits)
-
-total-requires : tie.Need-total-requires
-total-requires c κs = search needs
+add-elements-requires : tie.Need-add-elements-requires
+add-elements-requires c κs = search needs
 
 returns-3 : tie.Need-returns-3
-returns-3 c = search ways
-
-high-requires : tie.Need-high-requires
-high-requires c κs = search needs
-
-wide-requires-2 : tie.Need-wide-requires-2
-wide-requires-2 c κs = search needs
-
-mul-part : tie.Need-mul-part
-mul-part c = search (all-fits)
-
-refusal-requires-3 : tie.Need-refusal-requires-3
-refusal-requires-3 c κs = search needs
-
-returns-4 : tie.Need-returns-4
-returns-4 c = search ways
-
-mul-total-2 : tie.Need-mul-total-2
-mul-total-2 c = search (some-fits)
-
-total-requires-2 : tie.Need-total-requires-2
-total-requires-2 c κs = search needs
-
-returns-5 : tie.Need-returns-5
-returns-5 c = search ways
+returns-3 c = search of-row
 
 pub add-group-spec : {M : Type 1} → statement M
 add-group-spec =
@@ -62,18 +27,7 @@ add-group-spec =
     (tie.spec
     refusal-requires
     returns
-    refusal-requires-2
+    add-column-requires
     returns-2
-    wide-requires
-    low-requires
-    mul-total
-    total-requires
-    returns-3
-    high-requires
-    wide-requires-2
-    mul-part
-    refusal-requires-3
-    returns-4
-    mul-total-2
-    total-requires-2
-    returns-5)
+    add-elements-requires
+    returns-3)

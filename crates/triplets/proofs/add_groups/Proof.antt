@@ -6,10 +6,10 @@ use Rattle.triplets.proofs.add_groups.Statement.{statement}
 use Rattle.triplets.proofs.add_groups.Tie as tie
 
 abbrev Inv-loop : tie.InvT-loop
-Inv-loop t starts sizes sum n₀ g₀ n g = Adding t starts sizes sum n g
+Inv-loop t head starts sizes entries sum n₀ g₀ n g = Adding head t starts sizes entries sum n g
 
 abbrev μ-loop : tie.MeasureT-loop
-μ-loop t starts sizes sum n₀ g₀ n g = length t - g
+μ-loop t head starts sizes entries sum n₀ g₀ n g = length t - g
 
 loop-holds : tie.Need-loop-holds Inv-loop μ-loop
 loop-holds c = search (adding-start)
@@ -31,6 +31,12 @@ mul-add-group-2 c = search needs
 
 element-copy-out-add-group-2 : tie.Need-element-copy-out-add-group-2 Inv-loop μ-loop
 element-copy-out-add-group-2 c = search needs
+
+mul-add-group-3 : tie.Need-mul-add-group-3 Inv-loop μ-loop
+mul-add-group-3 c = search needs
+
+element-copy-out-add-group-3 : tie.Need-element-copy-out-add-group-3 Inv-loop μ-loop
+element-copy-out-add-group-3 c = search needs
 
 add-add-group : tie.Need-add-add-group Inv-loop μ-loop
 add-add-group c = search needs
@@ -75,6 +81,8 @@ add-groups-spec =
     element-copy-out-add-group
     mul-add-group-2
     element-copy-out-add-group-2
+    mul-add-group-3
+    element-copy-out-add-group-3
     add-add-group
     shared-slice-read-add-group
     add-add-group-2

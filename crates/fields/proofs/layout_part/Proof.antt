@@ -1,9 +1,9 @@
 use Rattle.fdoca.proofs.Tests.{tests}
-use Rattle.sdas.proofs.Entries.{digits-way}
-use Rattle.sdas.specs.Kept.{layoutPart}
+use Rattle.fields.proofs.Parts.{digits-way}
+use Rattle.fields.specs.Parts.{layoutPart}
 use borrow.Author.Needs.{needs}
-use Rattle.sdas.proofs.layout_part.Statement.{statement}
-use Rattle.sdas.proofs.layout_part.Tie as tie
+use Rattle.fields.proofs.layout_part.Statement.{statement}
+use Rattle.fields.proofs.layout_part.Tie as tie
 
 mul-result : tie.Need-mul-result
 mul-result c = search needs

@@ -1,9 +1,9 @@
-use Rattle.triplets.proofs.Judging.{row-has, rlo-bad-length, rlo-no-id, rlo-taken, rlo-groups}
+use Rattle.triplets.proofs.Judging.{row-has, row-bad-length, row-no-id, row-taken, row-groups}
 use borrow.Author.Tests.{not-true, not-false}
 use Rattle.sdas.proofs.Outcomes.{is-true}
 use borrow.Author.Needs.{needs}
-use Rattle.triplets.proofs.judge_rlo.Statement.{statement}
-use Rattle.triplets.proofs.judge_rlo.Tie as tie
+use Rattle.triplets.proofs.judge_row.Statement.{statement}
+use Rattle.triplets.proofs.judge_row.Tie as tie
 
 row-length-requires : tie.Need-row-length-requires
 row-length-requires c κs = search needs
@@ -12,7 +12,10 @@ refusal-requires : tie.Need-refusal-requires
 refusal-requires c κs = search needs
 
 returns : tie.Need-returns
-returns c = search (rlo-bad-length, not-true)
+returns c = search (row-bad-length, not-true)
+
+shared-slice-read-head : tie.Need-shared-slice-read-head
+shared-slice-read-head c = search (needs, row-has, is-true, not-false)
 
 shared-slice-read-if2 : tie.Need-shared-slice-read-if2
 shared-slice-read-if2 c = search (needs, row-has, is-true, not-false)
@@ -21,7 +24,7 @@ refusal-requires-2 : tie.Need-refusal-requires-2
 refusal-requires-2 c κs = search needs
 
 returns-2 : tie.Need-returns-2
-returns-2 c = search (rlo-no-id, not-false)
+returns-2 c = search (row-no-id, not-false)
 
 shared-slice-read-wide : tie.Need-shared-slice-read-wide
 shared-slice-read-wide c = search (needs, row-has, is-true, not-false)
@@ -39,21 +42,22 @@ refusal-requires-3 : tie.Need-refusal-requires-3
 refusal-requires-3 c κs = search needs
 
 returns-3 : tie.Need-returns-3
-returns-3 c = search (rlo-taken, not-false)
+returns-3 c = search (row-taken, not-false)
 
 add-groups-requires : tie.Need-add-groups-requires
 add-groups-requires c κs = search (needs, is-true, not-false)
 
 returns-4 : tie.Need-returns-4
-returns-4 c = search (rlo-groups, not-false)
+returns-4 c = search (row-groups, not-false)
 
-pub judge-rlo-spec : {M : Type 1} → statement M
-judge-rlo-spec =
+pub judge-row-spec : {M : Type 1} → statement M
+judge-row-spec =
     tie.close
     (tie.spec
     row-length-requires
     refusal-requires
     returns
+    shared-slice-read-head
     shared-slice-read-if2
     refusal-requires-2
     returns-2

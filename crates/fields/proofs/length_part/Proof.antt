@@ -1,8 +1,8 @@
 use Rattle.fdoca.proofs.Tests.{tests}
-use Rattle.sdas.specs.Kept.{lengthPart}
+use Rattle.fields.specs.Parts.{lengthPart}
 use borrow.Author.Needs.{needs}
-use Rattle.sdas.proofs.length_part.Statement.{statement}
-use Rattle.sdas.proofs.length_part.Tie as tie
+use Rattle.fields.proofs.length_part.Statement.{statement}
+use Rattle.fields.proofs.length_part.Tie as tie
 
 add-result : tie.Need-add-result
 add-result c = search needs
