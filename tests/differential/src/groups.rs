@@ -4,6 +4,7 @@ mod codes;
 mod descriptor_bytes;
 mod floats;
 mod forms;
+mod layouts;
 mod limits;
 mod packed;
 
@@ -16,7 +17,7 @@ pub struct Group {
     pub run: fn(&mut Comparison),
 }
 
-pub const GROUPS: [Group; 14] = [
+pub const GROUPS: [Group; 19] = [
     Group {
         name: "valid blocks of every form",
         run: forms::every_form,
@@ -68,6 +69,26 @@ pub const GROUPS: [Group; 14] = [
     Group {
         name: "floats with data of every size",
         run: floats::every_size_of_data,
+    },
+    Group {
+        name: "columns of every type code",
+        run: layouts::every_code,
+    },
+    Group {
+        name: "every length put in for a column",
+        run: layouts::every_length,
+    },
+    Group {
+        name: "columns with data of every size",
+        run: layouts::every_size_of_data,
+    },
+    Group {
+        name: "every short run of triplets around a layout",
+        run: layouts::every_run,
+    },
+    Group {
+        name: "layouts of 84 to 1,334 columns",
+        run: layouts::long_layouts,
     },
     Group {
         name: "random bytes",

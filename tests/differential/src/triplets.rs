@@ -2,10 +2,12 @@
 
 pub const SDA: u8 = 0x70;
 pub const RLO: u8 = 0x71;
+pub const GDA: u8 = 0x75;
 pub const ISD: u8 = 0x7E;
 pub const CPT: u8 = 0x7F;
 
-/// A group: id referred to, elements taken, repetition factor.
+/// A group of an RLO: id referred to, elements taken, repetition factor. A group of a GDA: id
+/// referred to, field length.
 pub type Group = [u8; 3];
 
 /// How many groups a triplet can hold.
@@ -21,14 +23,25 @@ pub fn sda(id: u8, type_code: u8, mode: u8, field_length: u16, extents: &[u16]) 
 
 /// An RLO with the groups given, and as many CPTs as they need.
 pub fn row(id: u8, groups: &[Group]) -> Vec<u8> {
-    row_of_parts(id, groups.chunks(MOST_GROUPS))
+    of_parts(RLO, id, groups.chunks(MOST_GROUPS))
 }
 
-/// An RLO with the first part of the groups, and a CPT for each further part.
-pub fn row_of_parts<'g>(id: u8, parts: impl Iterator<Item = &'g [Group]>) -> Vec<u8> {
+/// A GDA with the columns given, and as many CPTs as they need.
+pub fn layout(id: u8, columns: &[Group]) -> Vec<u8> {
+    of_parts(GDA, id, columns.chunks(MOST_GROUPS))
+}
+
+/// The group of a GDA.
+pub fn column(id: u8, field_length: u16) -> Group {
+    let [high, low] = field_length.to_be_bytes();
+    [id, high, low]
+}
+
+/// An RLO or a GDA with the first part of the groups, and a CPT for each further part.
+pub fn of_parts<'g>(construct: u8, id: u8, parts: impl Iterator<Item = &'g [Group]>) -> Vec<u8> {
     let mut triplets = Vec::new();
     for (part, groups) in parts.enumerate() {
-        let (construct, id) = if part == 0 { (RLO, id) } else { (CPT, 0) };
+        let (construct, id) = if part == 0 { (construct, id) } else { (CPT, 0) };
         triplets.extend([3 + 3 * groups.len() as u8, construct, id]);
         triplets.extend(groups.concat());
     }

@@ -2,6 +2,8 @@
 
 extern crate differential as reader;
 
+#[path = "../../reader/tests/vectors/cuts.rs"]
+mod cuts;
 #[path = "../../reader/tests/vectors/edges.rs"]
 mod edges;
 #[path = "../../reader/tests/vectors/environment.rs"]
@@ -10,6 +12,8 @@ mod environment;
 mod examples;
 #[path = "../../reader/tests/vectors/floats.rs"]
 mod floats;
+#[path = "../../reader/tests/vectors/groups.rs"]
+mod groups;
 #[path = "../../reader/tests/vectors/limits.rs"]
 mod limits;
 #[path = "../../reader/tests/vectors/packed.rs"]

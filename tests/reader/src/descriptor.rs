@@ -11,6 +11,7 @@ pub const MAX_ITEMS: usize = 4_096;
 
 pub(crate) const SDA: u8 = 0x70;
 pub(crate) const RLO: u8 = 0x71;
+pub(crate) const GDA: u8 = 0x75;
 pub(crate) const ISD: u8 = 0x7E;
 pub(crate) const CPT: u8 = 0x7F;
 
@@ -41,16 +42,22 @@ fn first_triplet(descriptor: &[u8]) -> Result<&[u8], u32> {
 
 /// What an id stands for.
 enum Lower {
-    Sda { field: Field, extents: Vec<u16> },
-    Rlo { fields: Vec<Field> },
+    Sda {
+        field: Field,
+        extents: Vec<u16>,
+    },
+    /// An RLO or a GDA.
+    Row {
+        fields: Vec<Field>,
+    },
 }
 
 impl Lower {
-    /// The list of a triplet referred to: some fields, and how often they are taken.
+    /// The list that an RLO refers to: some fields, and how often they are taken.
     fn list(&self, elements_taken: u8) -> Result<(&[Field], usize), u32> {
         match self {
-            Lower::Rlo { .. } if elements_taken > 0 => Err(NOT_CARRIED),
-            Lower::Rlo { fields } => Ok((fields, 1)),
+            Lower::Row { .. } if elements_taken > 0 => Err(NOT_CARRIED),
+            Lower::Row { fields } => Ok((fields, 1)),
             Lower::Sda { field, extents } => {
                 let count = match extents.split_first() {
                     _ if elements_taken == 0 => product(extents),
@@ -60,6 +67,33 @@ impl Lower {
                 Ok((slice::from_ref(field), count as usize))
             }
         }
+    }
+
+    /// The one field that a GDA refers to, of the size given there.
+    fn column(&self, size: [u8; 2]) -> Option<Field> {
+        match self {
+            Lower::Sda { field, extents } if extents.is_empty() => field.replaced(size),
+            _ => None,
+        }
+    }
+}
+
+/// An RLO or a GDA whose CPTs may still follow; it is not described yet.
+struct Open {
+    construct: u8,
+    id: u8,
+    fields: Vec<Field>,
+}
+
+impl Open {
+    fn add(&mut self, fields: &[Field], times: usize) -> Result<(), u32> {
+        if self.fields.len() + fields.len() * times > MAX_ITEMS {
+            return Err(TOO_MANY_ITEMS);
+        }
+        for _ in 0..times {
+            self.fields.extend_from_slice(fields);
+        }
+        Ok(())
     }
 }
 
@@ -71,8 +105,7 @@ fn product(extents: &[u16]) -> u64 {
 #[derive(Default)]
 struct Unfolding {
     described: BTreeMap<u8, Lower>,
-    /// The RLO whose CPTs may still follow; it is not described yet.
-    open: Option<(u8, Vec<Field>)>,
+    open: Option<Open>,
     last: Option<u8>,
 }
 
@@ -81,7 +114,7 @@ impl Unfolding {
     fn read(&mut self, triplet: &[u8], is_first: bool) -> Result<usize, u32> {
         match triplet[1] {
             SDA => self.sda(triplet)?,
-            RLO => self.rlo(triplet)?,
+            RLO | GDA => self.row(triplet)?,
             CPT => self.cpt(triplet)?,
             ISD if is_first => isd(triplet)?,
             ISD => return Err(OUT_OF_SEQUENCE),
@@ -116,7 +149,7 @@ impl Unfolding {
         Ok(())
     }
 
-    fn rlo(&mut self, triplet: &[u8]) -> Result<(), u32> {
+    fn row(&mut self, triplet: &[u8]) -> Result<(), u32> {
         self.close();
         if !holds_groups(triplet) {
             return Err(BAD_LENGTH);
@@ -128,42 +161,45 @@ impl Unfolding {
         if self.described.contains_key(&id) {
             return Err(NAME_TAKEN);
         }
-        let fields = self.add_groups(Vec::new(), &triplet[3..])?;
-        self.open = Some((id, fields));
+        let open = Open {
+            construct: triplet[1],
+            id,
+            fields: Vec::new(),
+        };
+        self.open = Some(self.add_groups(open, &triplet[3..])?);
         Ok(())
     }
 
     fn cpt(&mut self, triplet: &[u8]) -> Result<(), u32> {
-        let (id, fields) = self.open.take().ok_or(OUT_OF_SEQUENCE)?;
+        let open = self.open.take().ok_or(OUT_OF_SEQUENCE)?;
         if !holds_groups(triplet) {
             return Err(BAD_LENGTH);
         }
         if triplet[2] != 0 {
             return Err(BAD_PARAMETER);
         }
-        let fields = self.add_groups(fields, &triplet[3..])?;
-        self.open = Some((id, fields));
+        self.open = Some(self.add_groups(open, &triplet[3..])?);
         Ok(())
     }
 
-    /// Adds the groups of one triplet to an RLO's list.
-    fn add_groups(&self, mut list: Vec<Field>, groups: &[u8]) -> Result<Vec<Field>, u32> {
+    /// Adds the groups of one triplet: of an RLO id, elements taken and factor, of a GDA id
+    /// and two bytes of size.
+    fn add_groups(&self, mut open: Open, groups: &[u8]) -> Result<Open, u32> {
         for group in groups.chunks_exact(3) {
-            let (reference, elements_taken, factor) = (group[0], group[1], group[2]);
-            let lower = self.described.get(&reference).ok_or(MISSING_REFERENCE)?;
+            let lower = self.described.get(&group[0]).ok_or(MISSING_REFERENCE)?;
+            if open.construct == GDA {
+                let field = lower.column([group[1], group[2]]).ok_or(COLUMN_MISFIT)?;
+                open.add(&[field], 1)?;
+                continue;
+            }
+            let (elements_taken, factor) = (group[1], group[2]);
             if factor == 0 {
                 return Err(NOT_CARRIED);
             }
             let (fields, times) = lower.list(elements_taken)?;
-            let times = times * usize::from(factor);
-            if list.len() + fields.len() * times > MAX_ITEMS {
-                return Err(TOO_MANY_ITEMS);
-            }
-            for _ in 0..times {
-                list.extend_from_slice(fields);
-            }
+            open.add(fields, times * usize::from(factor))?;
         }
-        Ok(list)
+        Ok(open)
     }
 
     fn describe(&mut self, id: u8, lower: Lower) {
@@ -171,18 +207,18 @@ impl Unfolding {
         self.last = Some(id);
     }
 
-    /// No CPT follows any more: the open RLO is now described.
+    /// No CPT follows any more: the open RLO or GDA is now described.
     fn close(&mut self) {
-        if let Some((id, fields)) = self.open.take() {
-            self.describe(id, Lower::Rlo { fields });
+        if let Some(Open { id, fields, .. }) = self.open.take() {
+            self.describe(id, Lower::Row { fields });
         }
     }
 
-    /// The list of the last SDA or RLO.
+    /// The list of the last SDA, RLO or GDA.
     fn finish(mut self) -> Option<Vec<Field>> {
         self.close();
         match self.described.remove(&self.last?)? {
-            Lower::Rlo { fields } => Some(fields),
+            Lower::Row { fields } => Some(fields),
             Lower::Sda { field, extents } => Some(vec![field; product(&extents) as usize]),
         }
     }

@@ -70,6 +70,23 @@ mod tests {
     }
 
     #[test]
+    fn columns_of_their_own_lengths() {
+        let descriptor = [
+            0x0C, 0x70, 0xB1, 0xA3, 0, 0, 0, 0, 0, 0, 0, 8, 0x0C, 0x75, 0xC1, 0xB1, 0, 2, 0xB1, 0,
+            4, 0xB1, 0, 0,
+        ];
+        let file = [
+            &[0, 0, 0, 24, 0, 0, 0, 9],
+            &descriptor[..],
+            &[0; 8],
+            &[0x80],
+        ]
+        .concat();
+        let text = "items 3 bytes 9\n0 0 163 2\n1 3 163 4\n2 8 163 null\n";
+        assert_eq!(dump(&file), text);
+    }
+
+    #[test]
     fn files_that_do_not_fit_their_sizes() {
         let rows: [(&[u8], &str); 6] = [
             (&[], "refused 19 0\n"),

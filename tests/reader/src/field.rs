@@ -65,6 +65,10 @@ const RULES: [Rule; 10] = [
 pub(crate) const NULLABLE: u8 = 0x80;
 
 impl Rule {
+    fn of(plain: u8) -> Option<&'static Rule> {
+        RULES.iter().find(|rule| rule.type_code == plain)
+    }
+
     fn allows(&self, parameters: &[u8; 8]) -> bool {
         let [reserved_0, reserved_1, bias @ .., reserved_4, mode, byte_6, byte_7] = *parameters;
         let length = u16::from_be_bytes([byte_6, byte_7]);
@@ -107,7 +111,7 @@ impl Field {
     /// rule does not allow the parameters that hold for it.
     pub(crate) fn new(id: u8, type_code: u8, parameters: [u8; 8]) -> Option<Field> {
         let plain = type_code & !NULLABLE;
-        let rule = RULES.iter().find(|rule| rule.type_code == plain)?;
+        let rule = Rule::of(plain)?;
         let parameters = parameters_that_hold(plain, parameters);
         (id != 0 && rule.allows(&parameters)).then_some(Field {
             id,
@@ -115,6 +119,19 @@ impl Field {
             parameters,
             form: rule.form,
         })
+    }
+
+    /// The field with bytes 6 and 7 of its parameters replaced, unless its type's rule does
+    /// not allow that. Zero replaces nothing; there is no default.
+    pub(crate) fn replaced(&self, size: [u8; 2]) -> Option<Field> {
+        if size == [0, 0] {
+            return Some(*self);
+        }
+        let mut field = *self;
+        field.parameters[6..].copy_from_slice(&size);
+        Rule::of(self.plain_type())?
+            .allows(&field.parameters)
+            .then_some(field)
     }
 
     pub fn id(&self) -> u8 {
@@ -134,7 +151,8 @@ impl Field {
         self.type_code & NULLABLE != 0
     }
 
-    /// The eight type parameters that hold, which are the SDA's but for a float's default.
+    /// The eight type parameters that hold, which are the SDA's but for a float's default
+    /// and for a length that a GDA puts in.
     pub fn parameters(&self) -> [u8; 8] {
         self.parameters
     }
@@ -191,6 +209,30 @@ mod tests {
             let field = Field::new(1, type_code, parameters.to_be_bytes());
             let carried = field.map(|field| u64::from_be_bytes(field.parameters()));
             assert_eq!(carried, held, "X'{type_code:X}' {parameters:016X}");
+        }
+    }
+
+    #[test]
+    fn a_replaced_length_suits_or_there_is_no_field() {
+        let rows: [(u8, u64, u16, Option<u64>); 12] = [
+            (0x01, 5, 0x7FFF, Some(0x7FFF)),
+            (0x01, 5, 0x8000, None),
+            (0x01, 5, 0, Some(5)),
+            (0x82, 0x0001_0005, 9, Some(0x0001_0009)),
+            (0x07, 0x0001_0005, 255, Some(0x0001_00FF)),
+            (0x07, 0x0001_0005, 256, None),
+            (0xB0, 0x0301, 0x0503, Some(0x0503)),
+            (0xB0, 0x0301, 0x0305, None),
+            (0x40, 0xFFFF, 0, Some(8)),
+            (0x40, 0xFFFF, 0xFFFF, None),
+            (0xC7, 0x0000_0001_0000_0000, 8, Some(0x0000_0001_0000_0008)),
+            (0xC7, 0x0000_0001_0000_0000, 16, None),
+        ];
+        for (type_code, parameters, length, held) in rows {
+            let field = Field::new(1, type_code, parameters.to_be_bytes());
+            let replaced = field.and_then(|field| field.replaced(length.to_be_bytes()));
+            let carried = replaced.map(|field| u64::from_be_bytes(field.parameters()));
+            assert_eq!(carried, held, "X'{type_code:X}' {parameters:016X} {length}");
         }
     }
 }

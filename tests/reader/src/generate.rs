@@ -8,7 +8,7 @@ mod random;
 mod structured;
 
 pub use edges::{edges, file, files, limits};
-pub use extremes::full_descriptor;
+pub use extremes::{full_descriptor, full_group};
 pub use random::Random;
 
 use std::env;

@@ -37,3 +37,4 @@ pub const NO_SUCH_ITEM: u32 = 17;
 pub const WRONG_KIND: u32 = 18;
 pub const BAD_FILE: u32 = 19;
 pub const BAD_DIGIT: u32 = 20;
+pub const COLUMN_MISFIT: u32 = 21;

@@ -10,7 +10,7 @@ const SIZES: [u16; 6] = [0, 2, 4, 8, 16, 0x0302];
 /// A packed decimal of three digits, a string of two bytes behind a two-byte length, and one
 /// behind a one-byte length and before a zero byte, each with more bytes behind: no number is the
 /// same in both byte orders.
-const VALUES: [[u8; 17]; 3] = [
+pub(super) const VALUES: [[u8; 17]; 3] = [
     [
         0x12, 0x3C, 3, 4, 5, 6, 7, 8, 9, 10, 11, 12, 13, 14, 15, 16, 17,
     ],

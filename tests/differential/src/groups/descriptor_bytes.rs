@@ -1,6 +1,6 @@
 //! Descriptors with one byte changed, to every other value at every position.
 
-use differential::triplets::{row, row_of_parts, sda};
+use differential::triplets::{column, of_parts, row, sda, GDA, RLO};
 
 use crate::compare::Comparison;
 
@@ -17,7 +17,7 @@ pub fn every_change(comparison: &mut Comparison) {
     }
 }
 
-fn blocks() -> [(Vec<u8>, Vec<u8>); 6] {
+fn blocks() -> [(Vec<u8>, Vec<u8>); 7] {
     [
         nullable_strings(),
         overrides(),
@@ -25,6 +25,7 @@ fn blocks() -> [(Vec<u8>, Vec<u8>); 6] {
         nested_rows(),
         packed_decimals(),
         floats(),
+        columns(),
     ]
 }
 
@@ -54,7 +55,7 @@ fn mixed_row() -> (Vec<u8>, Vec<u8>) {
         sda(3, 0x07, 0, 0, &[1, 2]),
         sda(4, 0xA4, 0, 4, &[1]),
         sda(5, 0x48, 0, 4, &[]),
-        row_of_parts(9, groups.chunks(2)),
+        of_parts(RLO, 9, groups.chunks(2)),
     ];
     let data = [
         &[0, 0, 2, b'a', b'b'][..],
@@ -108,5 +109,34 @@ fn floats() -> (Vec<u8>, Vec<u8>) {
         row(4, &[[1, 0, 1], [2, 0, 2], [3, 0, 1]]),
     ];
     let data = [&[0x41; 16][..], &[0, 1, 2, 3, 4], &[0x80], &[0x3F; 4]];
+    (descriptor.concat(), data.concat())
+}
+
+/// Lengths put in and kept, a CPT, and rows over them.
+fn columns() -> (Vec<u8>, Vec<u8>) {
+    let columns = [
+        column(1, 2),
+        column(2, 0x0402),
+        column(3, 0),
+        column(1, 0),
+        column(4, 3),
+    ];
+    let descriptor = [
+        sda(1, 0x23, 0, 4, &[]),
+        sda(2, 0xB0, 0, 0x0301, &[]),
+        sda(3, 0x47, 0, 0, &[]),
+        sda(4, 0x02, 1, 9, &[]),
+        of_parts(GDA, 5, columns.chunks(3)),
+        row(6, &[[5, 0, 2], [1, 0, 1]]),
+    ];
+    let first = [
+        &[0xFF, 0xFE][..],
+        &[0, 0x01, 0x23, 0x4D],
+        &[0x3F; 4],
+        &[0, 0, 0, 7],
+        &[0, 3, b'a', b'b', b'c'],
+    ];
+    let second = [&[1, 2][..], &[0x80], &[0x3F; 4], &[8; 4], &[0, 0]];
+    let data = [&first.concat()[..], &second.concat(), &[9; 4]];
     (descriptor.concat(), data.concat())
 }

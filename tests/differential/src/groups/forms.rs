@@ -3,7 +3,7 @@
 
 use std::collections::BTreeSet;
 
-use differential::triplets::{triplets, CPT, ISD, RLO, SDA};
+use differential::triplets::{triplets, CPT, GDA, ISD, RLO, SDA};
 use reader::generate::Generator;
 use reader::{unfold, Field};
 
@@ -28,6 +28,10 @@ enum Form {
     Nest,
     Continuation,
     Support,
+    /// The type code of a column, and whether a length is put in.
+    Column(u8, bool),
+    LayoutContinuation,
+    RowOfLayouts,
 }
 
 const FREE_LENGTHS: [bool; 2] = [false, true];
@@ -71,11 +75,14 @@ fn all_forms() -> BTreeSet<Form> {
         Form::Nest,
         Form::Continuation,
         Form::Support,
+        Form::LayoutContinuation,
+        Form::RowOfLayouts,
     ]);
     forms.extend((1..=18).map(Form::Digits));
     forms.extend([0x40, 0x47, 0x48, 0xC0, 0xC7, 0xC8].map(Form::Default));
     for (plain, modes, lengths) in TYPES {
         for type_code in [plain, plain + 0x80] {
+            forms.extend([false, true].map(|is_put_in| Form::Column(type_code, is_put_in)));
             for &mode in modes {
                 forms.extend(lengths.iter().map(|&has_length| Form::Field {
                     type_code,
@@ -94,24 +101,27 @@ fn forms(descriptor: &[u8]) -> Vec<Form> {
     let packed = fields.iter().filter(|field| field.plain_type() == 0x30);
     forms.extend(packed.map(|field| Form::Digits(field.parameters()[6])));
     let triplets = triplets(descriptor);
-    let rows: Vec<u8> = triplets
-        .iter()
-        .filter(|triplet| triplet[1] == RLO)
-        .map(|triplet| triplet[2])
-        .collect();
-    for triplet in triplets {
-        match triplet[1] {
-            SDA => {
+    let mut continued = 0;
+    for triplet in &triplets {
+        let construct = triplet[1];
+        if construct != CPT {
+            continued = construct;
+        }
+        let groups = triplet[3..].chunks_exact(3);
+        match (construct, continued) {
+            (SDA, _) => {
                 forms.push(Form::Extents((triplet.len() - 12) / 2));
                 forms.extend(default_form(triplet, &fields));
             }
-            ISD => forms.push(Form::Support),
-            CPT => forms.push(Form::Continuation),
-            _ => {}
-        }
-        if matches!(triplet[1], RLO | CPT) {
-            let groups = triplet[3..].chunks_exact(3);
-            forms.extend(groups.flat_map(|group| group_forms(group, &rows)));
+            (ISD, _) => forms.push(Form::Support),
+            (_, GDA) => {
+                forms.extend((construct == CPT).then_some(Form::LayoutContinuation));
+                forms.extend(groups.map(|group| column_form(group, &triplets)));
+            }
+            _ => {
+                forms.extend((construct == CPT).then_some(Form::Continuation));
+                forms.extend(groups.flat_map(|group| group_forms(group, &triplets)));
+            }
         }
     }
     forms
@@ -125,18 +135,32 @@ fn field_form(field: &Field) -> Form {
     }
 }
 
-/// The form of an SDA with a field for which other parameters hold.
+/// The form of an SDA with a field of its own for which other parameters hold.
 fn default_form(sda: &[u8], fields: &[Field]) -> Option<Form> {
-    let is_changed = |field: &&Field| field.id() == sda[2] && field.parameters() != sda[4..12];
-    let field = fields.iter().find(is_changed)?;
-    Some(Form::Default(field.type_code()))
+    let own = unfold(sda).ok()?[0];
+    let is_met = own.parameters() != sda[4..12] && fields.contains(&own);
+    is_met.then_some(Form::Default(own.type_code()))
 }
 
-fn group_forms(group: &[u8], rows: &[u8]) -> impl Iterator<Item = Form> {
+/// The triplet that a group refers to.
+fn lower<'t>(group: &[u8], triplets: &[&'t [u8]]) -> &'t [u8] {
+    let mut described = triplets.iter().filter(|triplet| triplet[1] != CPT);
+    described
+        .find(|triplet| triplet[2] == group[0])
+        .expect("a reference of a valid descriptor")
+}
+
+fn column_form(group: &[u8], triplets: &[&[u8]]) -> Form {
+    Form::Column(lower(group, triplets)[3], group[1..] != [0, 0])
+}
+
+fn group_forms(group: &[u8], triplets: &[&[u8]]) -> impl Iterator<Item = Form> {
+    let construct = lower(group, triplets)[1];
     [
         (group[1] > 0).then_some(Form::ElementsTaken),
         (group[2] > 1).then_some(Form::Repetition),
-        rows.contains(&group[0]).then_some(Form::Nest),
+        (construct == RLO).then_some(Form::Nest),
+        (construct == GDA).then_some(Form::RowOfLayouts),
     ]
     .into_iter()
     .flatten()

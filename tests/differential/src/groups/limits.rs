@@ -1,7 +1,7 @@
 //! Deep, wide and long descriptors, and sizes at and over their limits.
 
-use differential::triplets::{nest, row, sda, Group};
-use reader::generate::full_descriptor;
+use differential::triplets::{column, layout, nest, row, sda, Group};
+use reader::generate::{full_descriptor, full_group};
 use reader::{check, state, Refusal, MAX_DATA, MAX_DESCRIPTOR, SURPLUS};
 
 use crate::compare::Comparison;
@@ -20,7 +20,7 @@ fn sdas() -> [Vec<u8>; 6] {
 
 /// A descriptor with data that fits, is cut or goes on, and with some of its
 /// bytes changed.
-fn compare_around(comparison: &mut Comparison, descriptor: &[u8]) {
+pub(super) fn compare_around(comparison: &mut Comparison, descriptor: &[u8]) {
     for byte in [0, 0x80] {
         let data = fitting(descriptor, byte);
         comparison.compare(descriptor, &data);
@@ -41,7 +41,7 @@ fn compare_around(comparison: &mut Comparison, descriptor: &[u8]) {
 }
 
 /// As many equal bytes as the descriptor's items take, few if it is refused.
-fn fitting(descriptor: &[u8], byte: u8) -> Vec<u8> {
+pub(super) fn fitting(descriptor: &[u8], byte: u8) -> Vec<u8> {
     let length = match state(descriptor, &[byte; MAX_DATA], 0) {
         Ok(_) => MAX_DATA,
         Err(Refusal {
@@ -58,6 +58,7 @@ pub fn nests(comparison: &mut Comparison) {
         for rows in [1, 2, 17, 127, 249, 253, 254] {
             let plain = [&sda[..], &nest((0..rows).map(|_| 1))].concat();
             compare_around(comparison, &plain);
+            compare_around(comparison, &over_columns(&sda, rows));
             for doubled in [0..12, 0..13, rows.max(12) - 12..rows, rows / 2..rows] {
                 let factors = (0..rows).map(|row| 1 + u8::from(doubled.contains(&row)));
                 let doubling = [&sda[..], &nest(factors)].concat();
@@ -65,6 +66,14 @@ pub fn nests(comparison: &mut Comparison) {
             }
         }
     }
+}
+
+/// An SDA, a GDA of two columns in place of the first row, and the other rows over it.
+fn over_columns(sda: &[u8], rows: u8) -> Vec<u8> {
+    let columns = layout(2, &[column(1, 0), column(1, 0)]);
+    let nest = nest((0..rows).map(|_| 1));
+    let first_row = 6;
+    [sda, &columns, &nest[first_row..]].concat()
 }
 
 const EXTENTS: [&[u16]; 12] = [
@@ -130,6 +139,7 @@ pub fn long_rows(comparison: &mut Comparison) {
 
 pub fn sizes(comparison: &mut Comparison) {
     compare_around(comparison, &full_descriptor());
+    compare_around(comparison, &full_group());
     for length in [
         MAX_DESCRIPTOR - 1,
         MAX_DESCRIPTOR,

@@ -1,17 +1,19 @@
 //! Prints cases and the reader's answers as a table for a proof checker.
 //!
 //! `table SEED COUNT` writes the fixed cases (short ones, files with the text that the
-//! dump program prints, long ones), then COUNT random ones to standard output, in chunks of 50,
-//! and one line to standard error: how often each number was met by a random case. The exit status is
+//! dump program prints, long ones), then COUNT random ones to standard output, in chunks of 50 or, of
+//! long ones, 4, and one line to standard error: how often each number was met by a random case. The exit status is
 //! 1 unless every number that the calls can give was met at least ten times.
 
 use std::io::{self, BufWriter, Write};
 use std::process::ExitCode;
+use std::slice::Chunks;
 
 use reader::generate::{edges, files, limits, seed_and_count, Case, Generator};
 use reader::{dump, Answers, Counts};
 
 const CHUNK: usize = 50;
+const LONG_CHUNK: usize = 4;
 const SHORTEST_RUN: usize = 16;
 const FEWEST: u64 = 10;
 const FILES: usize = 100;
@@ -37,11 +39,21 @@ fn main() -> ExitCode {
 fn print(seed: u64, count: usize) -> io::Result<Counts> {
     let mut out = BufWriter::new(io::stdout().lock());
     let random: Vec<Case> = Generator::new(seed).take(count).collect();
-    print_cases(&mut out, "edges", &edges(), &mut Counts::default())?;
+    print_cases(
+        &mut out,
+        "edges",
+        edges().chunks(CHUNK),
+        &mut Counts::default(),
+    )?;
     print_files(&mut out, &files(seed, FILES))?;
-    print_cases(&mut out, "limits", &limits(), &mut Counts::default())?;
+    print_cases(
+        &mut out,
+        "limits",
+        limits().chunks(LONG_CHUNK),
+        &mut Counts::default(),
+    )?;
     let mut met = Counts::default();
-    print_cases(&mut out, "cases", &random, &mut met)?;
+    print_cases(&mut out, "cases", random.chunks(CHUNK), &mut met)?;
     out.flush()?;
     Ok(met)
 }
@@ -49,10 +61,10 @@ fn print(seed: u64, count: usize) -> io::Result<Counts> {
 fn print_cases(
     out: &mut impl Write,
     name: &str,
-    cases: &[Case],
+    chunks: Chunks<Case>,
     met: &mut Counts,
 ) -> io::Result<()> {
-    for (number, chunk) in cases.chunks(CHUNK).enumerate() {
+    for (number, chunk) in chunks.enumerate() {
         let mut rows = Vec::new();
         for case in chunk {
             let answers = Answers::of(case);

@@ -2,7 +2,7 @@
 
 use super::random::Random;
 use super::structured::isd;
-use crate::descriptor::{CPT, RLO, SDA};
+use crate::descriptor::{CPT, GDA, RLO, SDA};
 use crate::field::NULLABLE;
 
 /// Damages a descriptor once or twice; the result may still be valid.
@@ -24,12 +24,13 @@ pub(super) fn damaged(random: &mut Random, mut triplets: Vec<Vec<u8>>) -> Vec<u8
 }
 
 fn damage(random: &mut Random, triplets: &mut Vec<Vec<u8>>) {
-    match random.below(15) {
+    match random.below(20) {
         0 | 1 => header(random, triplets),
         2..=5 => parameters(random, triplets),
         6 => extents(random, triplets),
-        7..=10 => group(random, triplets),
-        11 => stray(random, triplets),
+        7..=12 => group(random, triplets),
+        13..=15 => column(random, triplets),
+        16 => stray(random, triplets),
         _ => order(random, triplets),
     }
 }
@@ -75,14 +76,19 @@ fn parameters(random: &mut Random, triplets: &mut [Vec<u8>]) {
         0 => triplet[3] = random.byte(),
         1 => triplet[3] = random.pick(&TYPE_CODES),
         2 => {
-            let lengths = match triplet[3] & !NULLABLE {
-                0x30 => DIGITS,
-                0x40 | 0x47 | 0x48 => FLOAT_LENGTHS,
-                _ => LENGTHS,
-            };
-            triplet[10..12].copy_from_slice(&random.pick(&lengths).to_be_bytes());
+            let length = random.pick(lengths_around(triplet[3]));
+            triplet[10..12].copy_from_slice(&length.to_be_bytes());
         }
         _ => triplet[random.between(4, 9)] = random.pick(&[1, 2, 0x80, 0xFF]),
+    }
+}
+
+/// Field lengths around those of a type.
+fn lengths_around(type_code: u8) -> &'static [u16] {
+    match type_code & !NULLABLE {
+        0x30 => &DIGITS,
+        0x40 | 0x47 | 0x48 => &FLOAT_LENGTHS,
+        _ => &LENGTHS,
     }
 }
 
@@ -117,6 +123,24 @@ fn group(random: &mut Random, triplets: &mut [Vec<u8>]) {
         4 => triplet[offset + 2] = 0,
         _ => triplet[offset + 2] = random.pick(&[2, 17, 64, 255]),
     }
+}
+
+/// Changes a column's length, or has it refer to any triplet.
+fn column(random: &mut Random, triplets: &mut [Vec<u8>]) {
+    let columns = columns(triplets);
+    if columns.is_empty() {
+        return;
+    }
+    let (place, offset) = random.pick(&columns);
+    if random.one_in(2) {
+        triplets[place][offset] = random.pick(&ids(triplets));
+        return;
+    }
+    let id = triplets[place][offset];
+    let refers = |triplet: &&Vec<u8>| is_sda(triplet) && triplet[2] == id;
+    let type_code = triplets.iter().find(refers).map_or(0, |sda| sda[3]);
+    let length = random.pick(lengths_around(type_code));
+    triplets[place][offset + 1..offset + 3].copy_from_slice(&length.to_be_bytes());
 }
 
 /// Puts an ISD or a CPT in any place, well made or not.
@@ -174,13 +198,29 @@ fn is_sda(triplet: &[u8]) -> bool {
 }
 
 fn has_groups(triplet: &[u8]) -> bool {
-    is_whole(triplet) && matches!(triplet[1], RLO | CPT) && triplet.len() >= 6
+    is_whole(triplet) && matches!(triplet[1], RLO | GDA | CPT) && triplet.len() >= 6
+}
+
+/// The groups of the GDAs and of their CPTs: which triplet, and where in it.
+fn columns(triplets: &[Vec<u8>]) -> Vec<(usize, usize)> {
+    let mut columns = Vec::new();
+    let mut construct = 0;
+    for (place, triplet) in triplets.iter().enumerate() {
+        if triplet[1] != CPT {
+            construct = triplet[1];
+        }
+        if construct == GDA && has_groups(triplet) {
+            let groups = triplet.len() / 3;
+            columns.extend((1..groups).map(|group| (place, 3 * group)));
+        }
+    }
+    columns
 }
 
 fn ids(triplets: &[Vec<u8>]) -> Vec<u8> {
     triplets
         .iter()
-        .filter(|triplet| matches!(triplet[1], SDA | RLO))
+        .filter(|triplet| matches!(triplet[1], SDA | RLO | GDA))
         .map(|triplet| triplet[2])
         .collect()
 }

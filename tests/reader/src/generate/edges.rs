@@ -1,6 +1,7 @@
 //! Fixed cases and files: what the papers name by a number, at that number and
 //! beside it.
 
+mod columns;
 mod floats;
 mod packed;
 
@@ -8,7 +9,7 @@ use super::fitting;
 use super::random::Random;
 use super::structured::{plain_parameters, sda_of, with_groups, TYPES};
 use super::{Case, Generator};
-use crate::descriptor::{CPT, ISD, MAX_DESCRIPTOR, RLO, SDA};
+use crate::descriptor::{CPT, GDA, ISD, MAX_DESCRIPTOR, RLO, SDA};
 use crate::field::NULLABLE;
 use crate::unfold;
 use crate::walk::MAX_DATA;
@@ -28,13 +29,15 @@ pub fn edges() -> Vec<Case> {
     cases.extend(asked_of_every_type(&mut random));
     cases.extend(packed::blocks());
     cases.extend(floats::blocks());
+    cases.extend(columns::blocks());
     cases
 }
 
 /// Cases around the limits of counts and sizes.
 pub fn limits() -> Vec<Case> {
     let mut random = Random::new(1);
-    let mut cases: Vec<Case> = counts()
+    let mut cases: Vec<Case> = [counts(), columns::counts()]
+        .concat()
         .into_iter()
         .map(|descriptor| fitting_case(&mut random, descriptor))
         .collect();
@@ -75,6 +78,7 @@ fn descriptors() -> Vec<Vec<u8>> {
         extents(),
         packed::descriptors(),
         floats::descriptors(),
+        columns::descriptors(),
     ]
     .concat()
 }
@@ -147,31 +151,21 @@ fn constructs() -> Vec<Vec<u8>> {
 
 /// Every LENGTH of each construct up to 21, as the last triplet and before another.
 fn triplet_lengths() -> Vec<Vec<u8>> {
-    let contents: [(u8, [u8; 19]); 4] = [
-        (
-            SDA,
-            [2, 1, 0, 0, 0, 0, 0, 0, 0, 1, 0, 1, 0, 1, 0, 1, 0, 1, 0],
-        ),
-        (
-            RLO,
-            [2, 1, 0, 1, 1, 0, 1, 1, 0, 1, 1, 0, 1, 1, 0, 1, 1, 0, 1],
-        ),
-        (
-            CPT,
-            [0, 1, 0, 1, 1, 0, 1, 1, 0, 1, 1, 0, 1, 1, 0, 1, 1, 0, 1],
-        ),
-        (
-            ISD,
-            [0, 1, 0, 1, 0, 0, 0, 0, 0, 0, 0, 0, 0, 0, 0, 0, 0, 0, 0],
-        ),
+    let parameters = [2, 1, 0, 0, 0, 0, 0, 0, 0, 1, 0, 1, 0, 1, 0, 1, 0, 1, 0];
+    let groups = [2, 1, 0, 1, 1, 0, 1, 1, 0, 1, 1, 0, 1, 1, 0, 1, 1, 0, 1];
+    let more_groups = [0, 1, 0, 1, 1, 0, 1, 1, 0, 1, 1, 0, 1, 1, 0, 1, 1, 0, 1];
+    let subset = [0, 1, 0, 1, 0, 0, 0, 0, 0, 0, 0, 0, 0, 0, 0, 0, 0, 0, 0];
+    let behind = |construct| [sda(1, &[]), with_groups(construct, 2, &[[1, 0, 1]])].concat();
+    let contents = [
+        (sda(1, &[]), SDA, parameters),
+        (sda(1, &[]), RLO, groups),
+        (sda(1, &[]), GDA, groups),
+        (behind(RLO), CPT, more_groups),
+        (behind(GDA), CPT, more_groups),
+        (Vec::new(), ISD, subset),
     ];
     let mut descriptors = Vec::new();
-    for (construct, content) in contents {
-        let before = match construct {
-            ISD => Vec::new(),
-            CPT => [sda(1, &[]), with_groups(RLO, 2, &[[1, 0, 1]])].concat(),
-            _ => sda(1, &[]),
-        };
+    for (before, construct, content) in contents {
         for length in 0..=21 {
             let mut triplet = vec![length as u8, construct];
             triplet.extend(content);
@@ -403,6 +397,7 @@ pub fn files(seed: u64, count: usize) -> Vec<Vec<u8>> {
         &[0x80; 12],
     ));
     files.extend(floats::files());
+    files.extend(columns::files());
     // sizes that the file does not fit, or that are over their limits
     for length in 0..=9 {
         files.push(vec![0; length]);

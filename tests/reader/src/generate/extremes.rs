@@ -2,7 +2,7 @@
 
 use super::random::Random;
 use super::structured::{isd, plain_parameters, sda, sda_of, with_groups};
-use crate::descriptor::{CPT, MAX_DESCRIPTOR, RLO};
+use crate::descriptor::{CPT, GDA, MAX_DESCRIPTOR, RLO};
 use crate::unfold;
 use crate::walk::MAX_DATA;
 
@@ -34,7 +34,7 @@ pub(super) fn large_count(random: &mut Random) -> (Vec<u8>, Vec<u8>) {
 fn large_descriptor(random: &mut Random, type_code: u8, parameters: [u8; 8]) -> Vec<u8> {
     let sda = |extents: &[u16]| sda_of(SDA_ID, type_code, parameters, extents);
     let one = |reference, taken, factor| [[reference, taken, factor]];
-    match random.below(6) {
+    match random.below(7) {
         0 => sda(&[random.pick(&[61, 255, 256, 4095, 4096, 4097, 0x7FFF, 0x8000, 0xFFFF])]),
         1 => sda(random.pick(&[&[64, 64], &[64, 65], &[1, 4096], &[4096, 2], &[17, 241]])),
         2 => sda(random.pick(&[&[16, 16, 16], &[16, 16, 17], &[0xFFFF; 3], &[4, 4, 5]])),
@@ -49,6 +49,12 @@ fn large_descriptor(random: &mut Random, type_code: u8, parameters: [u8; 8]) -> 
             with_groups(RLO, 0xA2, &one(0xA1, 0, random.pick(&[2, 4, 64, 65]))),
         ]
         .concat(),
+        5 => [
+            sda(&[]),
+            with_groups(GDA, 0xC1, &[[SDA_ID, 0, 0]; 64]),
+            with_groups(RLO, 0xA1, &one(0xC1, 0, random.pick(&[1, 2, 64, 65]))),
+        ]
+        .concat(),
         _ => [
             sda(&[random.pick(&[2047, 4094, 4095, 4096])]),
             with_groups(RLO, 0xA1, &one(SDA_ID, 0, 1)),
@@ -60,14 +66,15 @@ fn large_descriptor(random: &mut Random, type_code: u8, parameters: [u8; 8]) -> 
 
 /// Random bytes, triplets of random contents, deep nests, many groups.
 pub(super) fn hostile_descriptor(random: &mut Random) -> Vec<u8> {
-    match random.below(4) {
+    match random.below(5) {
         0 => {
             let count = random.below(40);
             random.bytes(count)
         }
         1 => random_triplets(random),
         2 => nest(random),
-        _ => many_groups(random),
+        3 => many_groups(random),
+        _ => many_columns(random),
     }
 }
 
@@ -76,14 +83,14 @@ fn random_triplets(random: &mut Random) -> Vec<u8> {
     let mut descriptor = Vec::new();
     for _ in 0..random.between(1, 6) {
         let length = random.pick(&[2, 5, 6, 9, 12, 14, 16]);
-        let construct = random.pick(&[0x70, 0x70, 0x71, 0x71, 0x7E, 0x7F, 0x75]);
+        let construct = random.pick(&[0x70, 0x70, 0x71, 0x71, 0x75, 0x76, 0x7E, 0x7F]);
         descriptor.extend([length as u8, construct]);
         descriptor.extend((2..length).map(|_| random.pick(&[0, 0, 0, 1, 1, 2, 4])));
     }
     descriptor
 }
 
-/// RLOs one over the other, at times as deep as ids allow.
+/// RLOs one over the other, at times over a GDA, and at times as deep as ids allow.
 fn nest(random: &mut Random) -> Vec<u8> {
     let depth = if random.one_in(30) {
         255
@@ -92,7 +99,12 @@ fn nest(random: &mut Random) -> Vec<u8> {
     };
     let most = random.pick(&[1, 1, 1, 2]);
     let mut descriptor = sda(random, 1, &[]);
-    for id in 2..=depth as u8 {
+    let second = match random.one_in(3) {
+        true => with_groups(GDA, 2, &[[1, 0, 0]; 2]),
+        false => with_groups(RLO, 2, &[[1, 0, 1]]),
+    };
+    descriptor.extend(second);
+    for id in 3..=depth as u8 {
         let factor = random.between(1, most) as u8;
         descriptor.extend(with_groups(RLO, id, &[[id - 1, 0, factor]]));
     }
@@ -109,11 +121,38 @@ fn many_groups(random: &mut Random) -> Vec<u8> {
             .collect();
         descriptor.extend(with_groups(construct, id, &groups));
     }
+    change_last_group(random, &mut descriptor);
+    descriptor
+}
+
+/// A GDA and a CPT of many columns, at times as many as a triplet can hold, and at times under
+/// an RLO.
+fn many_columns(random: &mut Random) -> Vec<u8> {
+    let mut descriptor = [
+        sda_of(1, 0x81, plain_parameters(0, 1), &[]),
+        sda_of(2, 0xA3, plain_parameters(0, 2), &[]),
+    ]
+    .concat();
+    let most = random.pick(&[28, 28, 84]);
+    for (construct, id) in [(GDA, 3), (CPT, 0)] {
+        let columns: Vec<[u8; 3]> = (0..random.between(most / 2, most))
+            .map(|_| random.pick(&[[1, 0, 0], [1, 0, 2], [2, 0, 0], [2, 0, 4]]))
+            .collect();
+        descriptor.extend(with_groups(construct, id, &columns));
+    }
+    if random.one_in(2) {
+        descriptor.extend(with_groups(RLO, 4, &[[3, 0, random.pick(&[1, 2, 255])]]));
+    }
+    change_last_group(random, &mut descriptor);
+    descriptor
+}
+
+/// Changes a byte of the last group now and then.
+fn change_last_group(random: &mut Random, descriptor: &mut [u8]) {
     if random.one_in(4) {
         let last = descriptor.len() - 3;
         descriptor[last + random.below(3)] = random.pick(&[0, 3, 255]);
     }
-    descriptor
 }
 
 /// Makes a descriptor or a data block as long as its limit, or longer.
@@ -152,7 +191,22 @@ pub fn full_descriptor() -> Vec<u8> {
     descriptor
 }
 
-/// One item of mode 0 that fills the data block, its value being short.
+/// A valid descriptor of 4,096 bytes: 16 triplets, of 84 columns and in the end of 80, over one
+/// SDA, and another SDA that stands unused.
+pub fn full_group() -> Vec<u8> {
+    let columns = [[1, 0, 1]; 84];
+    let mut descriptor = sda_of(1, 0x01, plain_parameters(0, 0), &[]);
+    descriptor.extend(sda_of(2, 0x01, plain_parameters(0, 0), &[1, 1]));
+    descriptor.extend(with_groups(GDA, 3, &columns));
+    for _ in 0..14 {
+        descriptor.extend(with_groups(CPT, 0, &columns));
+    }
+    descriptor.extend(with_groups(CPT, 0, &columns[..80]));
+    descriptor
+}
+
+/// One item of mode 0 that fills the data block, its value being short; at times a GDA puts its
+/// length in.
 fn long_item(random: &mut Random, over: usize) -> (Vec<u8>, Vec<u8>) {
     let (type_code, field_length, lead): (u8, u16, &[u8]) = random.pick(&[
         (0x02, 32_766, &[0, 2]),
@@ -160,6 +214,11 @@ fn long_item(random: &mut Random, over: usize) -> (Vec<u8>, Vec<u8>) {
         (0x03, 32_767, &[0x41, 0]),
         (0x83, 32_766, &[0x7F, 0x41, 0x42, 0]),
     ]);
-    let descriptor = sda_of(SDA_ID, type_code, plain_parameters(0, field_length), &[]);
+    let sda = |length| sda_of(SDA_ID, type_code, plain_parameters(0, length), &[]);
+    let [high, low] = field_length.to_be_bytes();
+    let descriptor = match random.one_in(2) {
+        true => [sda(9), with_groups(GDA, 0xC1, &[[SDA_ID, high, low]])].concat(),
+        false => sda(field_length),
+    };
     (descriptor, filled(lead.to_vec(), MAX_DATA + over, 0x61))
 }

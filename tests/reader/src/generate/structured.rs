@@ -1,7 +1,8 @@
 //! Valid descriptors, made triplet by triplet.
 
 use super::random::Random;
-use crate::descriptor::{CPT, ISD, RLO, SDA};
+use crate::descriptor::{CPT, GDA, ISD, RLO, SDA};
+use crate::field::NULLABLE;
 
 /// The plain field types; whole numbers and packed decimals stand twice so that they
 /// come more often.
@@ -44,20 +45,31 @@ pub(super) fn plain_parameters(mode: u8, field_length: u16) -> [u8; 8] {
 }
 
 fn parameters(random: &mut Random, plain: u8) -> [u8; 8] {
-    let is_large = random.one_in(12);
-    let (mode, field_length) = match plain {
-        0x01 => (0, random.below(if is_large { 24 } else { 6 })),
-        0x02 | 0x03 | 0x07 => (random.below(2), random.below(if is_large { 24 } else { 6 })),
-        0x30 => (0, digits(random)),
-        0x40 => (0, float_length(random, &[4, 8, 16])),
-        0x47 | 0x48 => (0, float_length(random, &[4, 8])),
-        _ => (0, random.pick(&[2, 4, 8])),
+    let mode = match plain {
+        0x02 | 0x03 | 0x07 => random.below(2),
+        _ => 0,
+    };
+    let field_length = match plain {
+        0x40 | 0x47 | 0x48 if random.one_in(2) => length_that_gives_way(random),
+        _ => field_length(random, plain),
     };
     let mut parameters = plain_parameters(mode as u8, field_length as u16);
     if matches!(plain, 0x47 | 0x48) {
         parameters[3] = random.below(2) as u8;
     }
     parameters
+}
+
+/// A field length that suits a plain type.
+fn field_length(random: &mut Random, plain: u8) -> usize {
+    match plain {
+        0x30 => digits(random),
+        0x40 => random.pick(&[4, 8, 16]),
+        0x47 | 0x48 => random.pick(&[4, 8]),
+        0x23 | 0x24 => random.pick(&[2, 4, 8]),
+        _ if random.one_in(12) => random.below(24),
+        _ => random.below(6),
+    }
 }
 
 /// Digits and fraction digits, often at the ends of their ranges.
@@ -73,13 +85,12 @@ fn digits(random: &mut Random) -> usize {
     digits << 8 | fraction_digits
 }
 
-/// One of the lengths that a float can have, or one that gives way to the type's default.
-fn float_length(random: &mut Random, lengths: &[usize]) -> usize {
-    match random.below(6) {
+/// A float's length that gives way to the type's default.
+fn length_that_gives_way(random: &mut Random) -> usize {
+    match random.below(3) {
         0 => 0,
         1 => random.pick(&[1, 2, 3, 5, 7, 9, 15, 17, 0x0104, 0x0800, 0x8010, 0xFFFF]),
-        2 => random.between(17, 0xFFFF),
-        _ => random.pick(lengths),
+        _ => random.between(17, 0xFFFF),
     }
 }
 
@@ -92,12 +103,22 @@ pub(super) fn isd(random: &mut Random) -> Vec<u8> {
     triplet
 }
 
-/// An RLO or CPT (id 0 for a CPT) with the groups given: reference, elements
-/// taken, repetition factor.
+/// An RLO, GDA or CPT (id 0 for a CPT) with the groups given: of an RLO reference, elements
+/// taken and repetition factor, of a GDA reference and two bytes of length.
 pub(super) fn with_groups(construct: u8, id: u8, groups: &[[u8; 3]]) -> Vec<u8> {
     let mut triplet = vec![3 + 3 * groups.len() as u8, construct, id];
     triplet.extend(groups.concat());
     triplet
+}
+
+/// A GDA's group over an SDA of a plain type: a length that suits, or none put in.
+fn column_group(random: &mut Random, (id, plain): (u8, u8)) -> [u8; 3] {
+    let length = match random.below(4) {
+        0 => 0,
+        _ => field_length(random, plain) as u16,
+    };
+    let [high, low] = length.to_be_bytes();
+    [id, high, low]
 }
 
 /// An id described before, as far as a group needs to know it.
@@ -107,6 +128,8 @@ struct Described {
     count: usize,
     /// The items of one element of an SDA's highest dimension, if it has extents.
     per_element: Option<usize>,
+    /// The plain type of an SDA without extents.
+    column: Option<u8>,
 }
 
 struct Draft<'r> {
@@ -123,10 +146,10 @@ impl Draft<'_> {
             self.triplets.push(isd);
         }
         for _ in 0..self.random.between(1, 5) {
-            if self.described.is_empty() || self.random.one_in(2) {
-                self.add_sda();
-            } else {
-                self.add_rlo();
+            match self.random.below(3) {
+                0 if !self.described.is_empty() => self.add_rlo(),
+                1 if !self.columns().is_empty() => self.add_gda(),
+                _ => self.add_sda(),
             }
         }
     }
@@ -143,12 +166,13 @@ impl Draft<'_> {
         }
         let product = |extents: &[u16]| extents.iter().map(|&extent| usize::from(extent)).product();
         let triplet = sda(self.random, id, &extents);
-        self.triplets.push(triplet);
         self.described.push(Described {
             id,
             count: product(&extents),
             per_element: extents.split_first().map(|(_, lower)| product(lower)),
+            column: extents.is_empty().then_some(triplet[3] & !NULLABLE),
         });
+        self.triplets.push(triplet);
     }
 
     fn add_rlo(&mut self) {
@@ -158,11 +182,39 @@ impl Draft<'_> {
         for _ in 0..self.random.pick(&[1, 1, 2, 2, 3, 4, 9]) {
             left -= self.add_group(&mut groups, left);
         }
-        self.push_groups(id, &groups);
+        self.push_groups(RLO, id, &groups);
         self.described.push(Described {
             id,
             count: self.items - left,
             per_element: None,
+            column: None,
+        });
+    }
+
+    /// The SDAs without extents: their ids and plain types.
+    fn columns(&self) -> Vec<(u8, u8)> {
+        self.described
+            .iter()
+            .filter_map(|described| Some((described.id, described.column?)))
+            .collect()
+    }
+
+    fn add_gda(&mut self) {
+        let columns = self.columns();
+        let id = self.fresh_id();
+        let count = self.random.pick(&[1, 1, 2, 2, 3, 4, 9]).min(self.items);
+        let groups: Vec<[u8; 3]> = (0..count)
+            .map(|_| {
+                let column = self.random.pick(&columns);
+                column_group(self.random, column)
+            })
+            .collect();
+        self.push_groups(GDA, id, &groups);
+        self.described.push(Described {
+            id,
+            count,
+            per_element: None,
+            column: None,
         });
     }
 
@@ -186,10 +238,10 @@ impl Draft<'_> {
         count * factor
     }
 
-    /// Puts groups into an RLO and, now and then, a chain of CPTs.
-    fn push_groups(&mut self, id: u8, groups: &[[u8; 3]]) {
+    /// Puts groups into an RLO or a GDA and, now and then, a chain of CPTs.
+    fn push_groups(&mut self, construct: u8, id: u8, groups: &[[u8; 3]]) {
         let mut rest = groups;
-        let (mut construct, mut id) = (RLO, id);
+        let (mut construct, mut id) = (construct, id);
         while !rest.is_empty() {
             let taken = if self.random.one_in(2) {
                 rest.len()
@@ -219,6 +271,8 @@ impl Draft<'_> {
 
 #[cfg(test)]
 mod tests {
+    use std::collections::BTreeMap;
+
     use super::*;
     use crate::unfold;
 
@@ -237,5 +291,37 @@ mod tests {
                 assert!(times >= 10, "X'{type_code:X}': {times}");
             }
         }
+    }
+
+    #[test]
+    fn columns_of_every_type_keep_a_length_or_have_one_put_in() {
+        let mut random = Random::new(9);
+        let mut met = BTreeMap::new();
+        for _ in 0..5_000 {
+            for column in columns(&triplets(&mut random, 12)) {
+                *met.entry(column).or_insert(0) += 1;
+            }
+        }
+        for plain in TYPES {
+            for column in [(plain, false), (plain, true)] {
+                let times = met.get(&column).copied().unwrap_or(0);
+                assert!(times >= 10, "{column:X?}: {times}");
+            }
+        }
+    }
+
+    /// The plain type of each column, and whether a length is put in.
+    fn columns(triplets: &[Vec<u8>]) -> Vec<(u8, bool)> {
+        let plain_type = |id| {
+            let mut sdas = triplets.iter().filter(|triplet| triplet[1] == SDA);
+            let sda = sdas.find(|sda| sda[2] == id).expect("an SDA");
+            sda[3] & !NULLABLE
+        };
+        triplets
+            .iter()
+            .filter(|triplet| triplet[1] == GDA)
+            .flat_map(|gda| gda[3..].chunks_exact(3))
+            .map(|column| (plain_type(column[0]), column[1..] != [0, 0]))
+            .collect()
     }
 }

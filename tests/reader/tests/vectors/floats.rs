@@ -3,9 +3,8 @@
 
 use reader::*;
 
-use crate::support::{
-    assert_block, assert_both_forms, assert_nullable, hex, refused, rows, sda, Answer,
-};
+use crate::cuts::assert_cuts;
+use crate::support::{assert_block, assert_both_forms, assert_nullable, hex, rows, sda, Answer};
 
 const DESCRIPTORS: &str = include_str!("float_descriptors.txt");
 const ROWS: &str = include_str!("float_rows.txt");
@@ -88,84 +87,9 @@ fn assert_plain_and_nullable(sda: &[u8], data: &[u8], answer: &Answer) {
     assert_nullable(&name, sda, data, answer.clone());
 }
 
-/// An item of a listed row.
-struct Item {
-    id: u8,
-    type_code: u8,
-    start: usize,
-    bytes: Vec<u8>,
-}
-
-impl Item {
-    /// The value behind any indicator, none for a null.
-    fn value(&self) -> Option<&[u8]> {
-        match self.type_code {
-            0x80.. if self.bytes[0] >= 0x80 => None,
-            0x80.. => Some(&self.bytes[1..]),
-            _ => Some(&self.bytes),
-        }
-    }
-}
-
-/// The items of a listed row, one behind the other.
-fn items(text: &str) -> Vec<Item> {
-    let mut start = 0;
-    let item = |text| {
-        let bytes = hex(text);
-        let item = Item {
-            id: bytes[0],
-            type_code: bytes[1],
-            start,
-            bytes: bytes[2..].to_vec(),
-        };
-        start += item.bytes.len();
-        item
-    };
-    text.split(',').map(item).collect()
-}
-
 #[test]
 fn rows_are_cut_as_listed() {
-    for [name, descriptor, text] in rows(ROWS) {
-        let (descriptor, items) = (hex(descriptor), items(text));
-        let data: Vec<u8> = items.iter().flat_map(|item| item.bytes.clone()).collect();
-        assert_list(name, &descriptor, &data, &items);
-        for (number, item) in (0..).zip(&items) {
-            assert_value(name, &descriptor, &data, number, item);
-        }
-        let last = items[items.len() - 1].start;
-        let cut = Answer::parse(&format!("refused 13 {last}"));
-        let surplus = Answer::parse(&format!("refused 16 {}", data.len()));
-        assert_block(name, &descriptor, &data[..data.len() - 1], &cut);
-        assert_block(name, &descriptor, &[&data[..], &[0]].concat(), &surplus);
-    }
-}
-
-fn assert_list(name: &str, descriptor: &[u8], data: &[u8], items: &[Item]) {
-    let mut expected = vec![items.len() as u32, data.len() as u32];
-    expected.extend(items.iter().map(|item| item.start as u32));
-    expected.extend(items.iter().map(|item| u32::from(item.id)));
-    let mut entries = vec![0; expected.len()];
-    assert_eq!(list(descriptor, data, &mut entries), Ok(()), "{name}");
-    assert_eq!(entries, expected, "{name}");
-}
-
-/// Asserts the state and the part of an item that is neither a whole number nor a packed
-/// decimal.
-fn assert_value(name: &str, descriptor: &[u8], data: &[u8], number: u32, item: &Item) {
-    let value = item.value().unwrap_or_default();
-    let expected = State {
-        is_null: item.value().is_none(),
-        type_code: item.type_code,
-        value_length: value.len() as u32,
-    };
-    assert_eq!(state(descriptor, data, number), Ok(expected), "{name}");
-    assert_eq!(lend(descriptor, data, number), value, "{name}");
-    let start = item.start as u32;
-    let whole = whole_number(descriptor, data, number);
-    assert_eq!(whole, refused(WRONG_KIND, start), "{name}");
-    let decimal = packed(descriptor, data, number);
-    assert_eq!(decimal, refused(WRONG_KIND, start), "{name}");
+    assert_cuts(ROWS);
 }
 
 /// 4,096 floats of 8 bytes are as long as a data block may be.

@@ -17,7 +17,7 @@ fn nest(sda: Vec<u8>, ids: u8, factor: u8) -> Vec<u8> {
 fn every_descriptor_of_two_bytes() {
     for (length, construct) in (0..=255).flat_map(|l| (0..=255).map(move |c| (l, c))) {
         let answer = match (length, construct) {
-            (2, 0x70 | 0x71 | 0x7E) => "refused 5 0",
+            (2, 0x70 | 0x71 | 0x75 | 0x7E) => "refused 5 0",
             (2, 0x7F) => "refused 4 0",
             (2, _) => "refused 3 0",
             _ => "refused 2 0",
@@ -158,7 +158,7 @@ fn refusals_come_in_order() {
 }
 
 /// Digits of a packed decimal with none to all of them as fraction digits.
-const DIGITS: [RangeInclusive<u16>; 18] = [
+pub const DIGITS: [RangeInclusive<u16>; 18] = [
     0x0100..=0x0101,
     0x0200..=0x0202,
     0x0300..=0x0303,

@@ -1,10 +1,12 @@
 //! Tables of descriptors and blocks with what the reader has to say of them.
 
+mod cuts;
 mod edges;
 mod environment;
 mod examples;
 mod floats;
 mod generator;
+mod groups;
 mod limits;
 mod packed;
 mod support;

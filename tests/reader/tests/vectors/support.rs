@@ -226,7 +226,7 @@ fn assert_item(name: &str, descriptor: &[u8], data: &[u8], answer: &Answer) {
         }
         Answer::Null | Answer::Refused(_) => assert!(lent.is_empty(), "{name}"),
     }
-    assert_wrong_kinds(name, descriptor, data);
+    assert_wrong_kinds(name, descriptor, data, 0, descriptor[3], 0);
     let mut entries = [u32::MAX; 5];
     if check(descriptor) == Ok(1) {
         let id = unfold(descriptor).expect(name)[0].id();
@@ -236,15 +236,22 @@ fn assert_item(name: &str, descriptor: &[u8], data: &[u8], answer: &Answer) {
     }
 }
 
-/// Asserts that the value calls refuse item 0, but for the one of its type.
-fn assert_wrong_kinds(name: &str, descriptor: &[u8], data: &[u8]) {
-    let plain = descriptor[3] & 0x7F;
+/// Asserts that the value calls refuse an item at its start, but for the one of its type.
+pub fn assert_wrong_kinds(
+    name: &str,
+    descriptor: &[u8],
+    data: &[u8],
+    item: u32,
+    type_code: u8,
+    start: u32,
+) {
+    let plain = type_code & 0x7F;
     if !matches!(plain, 0x23 | 0x24) {
-        let answer = whole_number(descriptor, data, 0);
-        assert_eq!(answer, refused(WRONG_KIND, 0), "{name}");
+        let answer = whole_number(descriptor, data, item);
+        assert_eq!(answer, refused(WRONG_KIND, start), "{name}");
     }
     if plain != 0x30 {
-        let answer = packed(descriptor, data, 0);
-        assert_eq!(answer, refused(WRONG_KIND, 0), "{name}");
+        let answer = packed(descriptor, data, item);
+        assert_eq!(answer, refused(WRONG_KIND, start), "{name}");
     }
 }
