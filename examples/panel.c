@@ -6,9 +6,9 @@
  * A block file holds the descriptor's size and the data's size, four bytes each, most significant byte first, then the
  * descriptor, then the data. Each item is printed as its SDA's id and its value: text in quotes, a whole number, a packed
  * decimal with its point, the bytes of a float in hexadecimal, or null. The column is every item whose SDA has the id ID,
- * 1 to 255, written as 177 or 0xB1; there must be one. A refusal is told in words, with its number and place, on standard
- * error. A packed decimal with bad digits is printed as refused, and the rows go on, but no column is summed. Exit status:
- * 0 all accepted; 1 a refusal; 2 anything else that went wrong.
+ * 1 to 255, written as 177 or 0xB1; there must be one, and all must have the same count of fraction digits. A refusal
+ * is told in words, with its number and place, on standard error. A packed decimal with bad digits is printed as refused,
+ * and the rows go on, but no column is summed. Exit status: 0 all accepted; 1 a refusal; 2 anything else that went wrong.
  */
 #include <inttypes.h>
 #include <stdbool.h>
@@ -50,7 +50,7 @@ struct column {
 /* The part that a number's place is an offset in; NULL where there is no place to tell. */
 static const char *part_of_place(uint32_t number)
 {
-    if (number >= FDOCA_TRIPLET_TRUNCATED && number <= FDOCA_DESCRIPTOR_MISSING)
+    if ((number >= FDOCA_TRIPLET_TRUNCATED && number <= FDOCA_DESCRIPTOR_MISSING) || number == FDOCA_COLUMN_MISFIT)
         return "descriptor";
     if ((number >= FDOCA_DATA_TRUNCATED && number <= FDOCA_TRAILING_DATA) || number == FDOCA_WRONG_TYPE ||
         number == FDOCA_INVALID_DIGIT)
@@ -238,7 +238,7 @@ static int print_item(const struct block *block, uint32_t k)
 }
 
 /* The calls tell of items, not of rows. To this example a row begins wherever the first item's id comes again, which is so
- * in a flat table. */
+ * in a flat table whose first column has an SDA of its own. */
 static int print_rows(const struct block *block, const uint32_t *list)
 {
     int status = ACCEPTED;
@@ -263,7 +263,7 @@ static bool add(int64_t *sum, int64_t value)
     return true;
 }
 
-/* All items of a column have the same SDA, hence the same count of fraction digits. */
+/* The items of a column have one SDA, but a GDA may give them other fraction digits: such a column has no sum. */
 static int add_item(const struct block *block, uint32_t k, struct column *column)
 {
     struct item item;
@@ -274,6 +274,8 @@ static int add_item(const struct block *block, uint32_t k, struct column *column
         number = ask_number(block, k, &place, &item);
     if (number != FDOCA_ACCEPTED)
         return refused("column", number, place);
+    if (column->items > 0 && column->sum.fraction_digits != item.number.fraction_digits)
+        return unusable("the numbers of this id differ in their fraction digits");
     if (!add(&column->sum.digits, item.number.digits))
         return unusable("the sum does not fit 64 bits");
     column->sum.fraction_digits = item.number.fraction_digits;

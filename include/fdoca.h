@@ -38,7 +38,7 @@ extern "C" {
 #define FDOCA_MAX_ITEMS 4096
 
 /* A thread with a stack of so many bytes can make any call: this is measured. The deepest nest takes the most, 255 levels:
- * an SDA and 254 RLOs, each with a group that refers to the one before. */
+ * an SDA, then an RLO or a GDA, then 253 RLOs, each with a group that refers to the one before. */
 #define FDOCA_STACK 98304
 
 /* The entries that a list of n items takes, and those of the largest list: 8,194. */
@@ -47,12 +47,14 @@ extern "C" {
 
 /*
  * The numbers, and the place that goes with each. A descriptor is a run of triplets: SDA (Simple Data Array, X'70'),
- * RLO (Row Layout, X'71'), ISD (Implementation Support Data, X'7E') and CPT (Continue Preceding Triplet, X'7F'). An RLO
- * and its CPTs hold groups: an id, elements taken, a repetition factor. A triplet's place is its offset in the descriptor,
- * an item's is its offset in the data. "Exception" is the standard's exception-id.
+ * RLO (Row Layout, X'71'), GDA (Group Data Array, X'75'), ISD (Implementation Support Data, X'7E') and CPT (Continue
+ * Preceding Triplet, X'7F'). An RLO and its CPTs hold groups: an id, elements taken, a repetition factor. A GDA and its CPTs
+ * hold groups of one item each: the id of an SDA without extents, and two bytes that replace the SDA's field length, or its
+ * digits and fraction digits; 0 replaces nothing. A triplet's place is its offset in the descriptor, an item's is its offset
+ * in the data. "Exception" is the standard's exception-id.
  *
  * The reasons are tried in this order: 1; the triplets from left to right, each by rising number from 2 to 10, with 8, 9
- * and 10 taken group by group; 11; 12; the items in order, by 13 to 15; 16; 17; 18; 20.
+ * and 10 taken group by group, and 21 right after 8; 11; 12; the items in order, by 13 to 15; 16; 17; 18; 20.
  */
 enum fdoca_number {
     /* Nothing is wrong. Place: 0. */
@@ -64,34 +66,34 @@ enum fdoca_number {
     /* A triplet's LENGTH is below 2 or goes past the end of the descriptor. Place: the triplet. */
     FDOCA_TRIPLET_TRUNCATED = 2,
 
-    /* A triplet is no SDA, RLO, ISD or CPT (exception 02). Place: the triplet. */
+    /* A triplet is no SDA, RLO, GDA, ISD or CPT (exception 02); a nullable GDA, X'76', is none. Place: the triplet. */
     FDOCA_UNRECOGNIZED_TYPE = 3,
 
-    /* A CPT follows neither an RLO nor a CPT, or an ISD is not the first triplet (exception 13). Place: the triplet. */
+    /* A CPT follows no RLO, GDA or CPT, or an ISD is not the first triplet (exception 13). Place: the triplet. */
     FDOCA_WRONG_POSITION = 4,
 
     /* A triplet's LENGTH is none that its form has. Place: the triplet. */
     FDOCA_INVALID_LENGTH = 5,
 
-    /* An SDA's or RLO's own id is 0, a field type has no rule, its parameters do not fit the rule, an extent is 0, or a
-     * CPT or an ISD has wrong contents. Most field lengths that do not fit a float are replaced instead: see enum
+    /* An SDA's, RLO's or GDA's own id is 0, a field type has no rule, its parameters do not fit the rule, an extent is 0,
+     * or a CPT or an ISD has wrong contents. Most field lengths that do not fit a float are replaced instead: see enum
      * fdoca_type. Place: the triplet. */
     FDOCA_PARAMETER_NOT_ACCEPTABLE = 6,
 
-    /* An SDA's or RLO's id was described before. Place: the triplet. */
+    /* An SDA's, RLO's or GDA's id was described before. Place: the triplet. */
     FDOCA_DUPLICATE_ID = 7,
 
     /* A group refers to an id that is not described yet (exception 03). Place: the group's triplet. */
     FDOCA_UNDEFINED_ID = 8,
 
-    /* A group's repetition factor is 0, or it takes elements of an RLO or of an SDA without extents. Place: the group's
-     * triplet. */
+    /* An RLO's group has a repetition factor of 0, or takes elements of an RLO, a GDA or an SDA without extents. Place: the
+     * group's triplet. */
     FDOCA_UNSUPPORTED_GROUP = 9,
 
     /* An SDA, or an RLO up to a group, has over FDOCA_MAX_ITEMS items. Place: the SDA, or the group's triplet. */
     FDOCA_TOO_MANY_ITEMS = 10,
 
-    /* The descriptor has neither an SDA nor an RLO. Place: the descriptor's length. */
+    /* The descriptor has no SDA, RLO or GDA. Place: the descriptor's length. */
     FDOCA_DESCRIPTOR_MISSING = 11,
 
     /* The list has fewer than FDOCA_LIST_SIZE(n) entries for n items. Place: 0. */
@@ -121,7 +123,11 @@ enum fdoca_number {
 
     /* A packed decimal has a digit above 9, a sign below X'A', or an unused first half-byte other than 0. fdoca_packed alone
      * looks at these, in the one item that it reads. Place: the item. */
-    FDOCA_INVALID_DIGIT = 20
+    FDOCA_INVALID_DIGIT = 20,
+
+    /* A GDA's group refers to an RLO, a GDA or an SDA with extents, or what replaces the SDA's field length or digits does
+     * not fit the type; a float has no default here. Place: the group's triplet. */
+    FDOCA_COLUMN_MISFIT = 21
 };
 
 /*
@@ -149,7 +155,7 @@ enum fdoca_type {
  * Checks a descriptor.
  *
  * items: how many items it describes.
- * Refuses by 1 to 11.
+ * Refuses by 1 to 11 and 21.
  */
 uint32_t fdoca_check(const uint8_t *descriptor, size_t descriptor_size, uint32_t *place, uint32_t *items);
 
@@ -164,7 +170,7 @@ uint32_t fdoca_check(const uint8_t *descriptor, size_t descriptor_size, uint32_t
  * and leaves every entry beyond as it is. An item ends where the next one starts, the last item at list[1]. On a refusal the
  * call leaves the whole list as it is.
  * list_size: how many entries of 32 bits the list has, at least FDOCA_LIST_SIZE(n). FDOCA_MAX_LIST is enough for any block.
- * Refuses by 1 to 16.
+ * Refuses by 1 to 16 and 21.
  */
 uint32_t fdoca_list(const uint8_t *descriptor, size_t descriptor_size, const uint8_t *data, size_t data_size,
                     uint32_t *list, size_t list_size, uint32_t *place);
@@ -176,7 +182,7 @@ uint32_t fdoca_list(const uint8_t *descriptor, size_t descriptor_size, const uin
  * is_null: 1 if the item is null, else 0.
  * type_code: the code of its field type or of the nullable form (enum fdoca_type).
  * value: the length of its value in bytes, without what stands before the value and behind it; 0 if the item is null.
- * Refuses by 1 to 11 and 13 to 17.
+ * Refuses by 1 to 11, 13 to 17 and 21.
  */
 uint32_t fdoca_state(const uint8_t *descriptor, size_t descriptor_size, const uint8_t *data, size_t data_size,
                      uint32_t item, uint32_t *place, uint32_t *is_null, uint32_t *type_code, uint32_t *value);
@@ -188,7 +194,7 @@ uint32_t fdoca_state(const uint8_t *descriptor, size_t descriptor_size, const ui
  * offset: where the value begins; that of a null is right behind its null indicator.
  * length: how many bytes it has, 0 if the item is null.
  * Neither offset nor offset + length is over data_size, also on a refusal.
- * Refuses by 1 to 11 and 13 to 17, as fdoca_state does.
+ * Refuses by 1 to 11, 13 to 17 and 21, as fdoca_state does.
  */
 uint32_t fdoca_lend(const uint8_t *descriptor, size_t descriptor_size, const uint8_t *data, size_t data_size,
                     uint32_t item, uint32_t *place, uint32_t *offset, uint32_t *length);
@@ -199,7 +205,7 @@ uint32_t fdoca_lend(const uint8_t *descriptor, size_t descriptor_size, const uin
  * item: the item's number, from 0.
  * is_null: 1 if the item is null, else 0.
  * value: the item's value, 0 if it is null.
- * Refuses by 1 to 11 and 13 to 18.
+ * Refuses by 1 to 11, 13 to 18 and 21.
  */
 uint32_t fdoca_whole_number(const uint8_t *descriptor, size_t descriptor_size, const uint8_t *data, size_t data_size,
                             uint32_t item, uint32_t *place, uint32_t *is_null, int64_t *value);
@@ -213,7 +219,7 @@ uint32_t fdoca_whole_number(const uint8_t *descriptor, size_t descriptor_size, c
  * value: the whole number of its digits and sign, 0 if it is null. Minus zero is 0.
  * fraction_digits: how many of the digits, counted from the last, are a fraction; told of a null too. The quantity is the
  * value divided by 10 to the power of fraction_digits.
- * Refuses by 1 to 11, 13 to 18 and 20.
+ * Refuses by 1 to 11, 13 to 18, 20 and 21.
  */
 uint32_t fdoca_packed(const uint8_t *descriptor, size_t descriptor_size, const uint8_t *data, size_t data_size,
                       uint32_t item, uint32_t *place, uint32_t *is_null, int64_t *value, uint32_t *fraction_digits);
@@ -286,6 +292,8 @@ static inline const char *fdoca_text(uint32_t number)
         return "file does not fit its sizes";
     case FDOCA_INVALID_DIGIT:
         return "digit or sign not valid";
+    case FDOCA_COLUMN_MISFIT:
+        return "column does not fit what it refers to";
     default:
         return "unknown number";
     }

@@ -58,17 +58,26 @@ triplet 6 0 0C70B1480000000000000010
 triplet 7 12 "$S$S"
 triplet 8 12 "${S}0671A1B20001"
 triplet 9 12 "${S}0671A1B10000"
+triplet 9 18 "${S}0675D1B100020671A1D10101"
 triplet 10 18 "${S}0671A1B100400671A2A10041"
+triplet 21 12 "${S}0675D1B18000"
+triplet 21 18 "${S}0675D1B10002067F00B18000"
 nothing='no field and no row before its end,'
 refuses 11 0 "$nothing $(in_descriptor 0)" '' ''
 refuses 11 5 "$nothing $(in_descriptor 5)" 057E000000 61
 item 13 4 "$S$twice" 00616263
 item 13 8 "0C70B1400000000000000000$twice" 416800000000000041680000000000
+item 13 4 "${S}0975D1B10000B10001" 0061626300
 item 14 3 "0C70B1020000000000010004$twice" 0001610005
 item 15 2 "0C70B1030000000000010002$twice" 6100616263
 refuses 16 5 "the first byte left over is $(in_data 5 18)" "$S$twice" 006162638000
 many=$(for id in {1..30}; do printf '0C70%02X010000000000000003' "$id"; done)
 item 13 0 "$many" 6162
+
+# a row of table 5-29 of DRDA Volume 1, its group without a null indicator and its text a string of bytes
+columns=0C7005A400000000000000020C700BC700000000000000080C7033820000000000017FFF0C75D00500020B0008330014
+block "$work/block" "$columns" FF000AD7A3703DE26540000004C6D9C5C4
+expect 'a row of columns' 0 $'items 3 bytes 17\n0 0 164 null\n1 1 199 8\n2 10 130 4' '' ./dump "$work/block"
 
 { bytes 0000000E000080000E70B10100000000000000081000; head -c 32768 /dev/zero; } >"$work/full"
 expect 'the largest block' 0 'items 4096 bytes 32768' '' sh -c "./dump $work/full >$work/listing && head -n 1 $work/listing"

@@ -1,6 +1,6 @@
 /*
- * Tests of the C calls: checks and lists, refusals of every call, limits. The last line printed is "N passed, M failed", and
- * the exit status is 0 if none failed.
+ * Tests of the C calls: checks and lists, refusals of every call, limits. GDAs are in columns.c. The last line printed is
+ * "N passed, M failed", and the exit status is 0 if none failed.
  */
 #include "support.h"
 
@@ -8,13 +8,7 @@
 #define V(mode, length) M("02", mode, length)
 #define Z(mode, length) M("03", mode, length)
 
-/* ---- descriptors: number, place and items of the check */
-
-struct check_case {
-    const char *name;
-    const char *descriptor;
-    uint32_t number, place, items;
-};
+/* ---- descriptors */
 
 static const struct check_case checks[] = {
     {"one field", S("01", "0003"), 0, 0, 1},
@@ -54,36 +48,6 @@ static const struct check_case checks[] = {
     {"nothing", "", 11, 0, 0},
     {"ISD only", "057E000100", 11, 5, 0},
 };
-
-static void test_checks(void)
-{
-    for (size_t i = 0; i < COUNT(checks); i++) {
-        const struct check_case *c = &checks[i];
-        struct bytes d = hex(c->descriptor);
-
-        expect(check_gives(d, c->number, c->place, c->items), "check", c->name);
-        free(d.at);
-    }
-}
-
-/* What the check refuses, the other calls refuse too. */
-static void test_refused_descriptors(void)
-{
-    struct bytes none = zeros(0);
-
-    for (size_t i = 0; i < COUNT(checks); i++) {
-        const struct check_case *c = &checks[i];
-        struct bytes d = hex(c->descriptor);
-
-        if (c->number != 0) {
-            expect(list_refuses(d, none, FDOCA_MAX_LIST, c->number, c->place), "list, bad descriptor", c->name);
-            expect(list_refuses(d, none, 0, c->number, c->place), "empty list, bad descriptor", c->name);
-            expect_refused(d, none, 0, c->number, c->place, c->name);
-        }
-        free(d.at);
-    }
-    free(none.at);
-}
 
 /* ---- blocks that are accepted: their items as runs of an id, a length and a count */
 
@@ -333,6 +297,7 @@ static const uint32_t numbers[] = {
     FDOCA_WRONG_TYPE,
     FDOCA_BAD_FILE,
     FDOCA_INVALID_DIGIT,
+    FDOCA_COLUMN_MISFIT,
 };
 
 /* Each name has its number, and each number words of its own; those past the last share words that no other has. */
@@ -340,7 +305,7 @@ static void test_words(void)
 {
     const uint32_t unknown = COUNT(numbers);
 
-    expect(unknown == 21, "words", "21 numbers");
+    expect(unknown == 22, "words", "22 numbers");
     for (uint32_t n = 0; n < unknown; n++) {
         bool own = fdoca_text(n)[0] != '\0';
 
@@ -354,8 +319,7 @@ static void test_words(void)
 
 int main(void)
 {
-    test_checks();
-    test_refused_descriptors();
+    test_checks(checks, COUNT(checks));
     test_blocks();
     test_figures();
     test_refusals();

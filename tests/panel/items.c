@@ -1,7 +1,7 @@
 /*
  * Tests of the C calls that tell of one item: its state, where its value lies, its whole number. What these calls refuse
- * alike is in calls.c, the reading of packed decimals in packed.c, every length of floats in floats.c. The last line printed
- * is "N passed, M failed", and the exit status is 0 if none failed.
+ * alike is in calls.c, the reading of packed decimals in packed.c, every length of floats in floats.c, items whose length a
+ * GDA gives in columns.c. The last line printed is "N passed, M failed", and the exit status is 0 if none failed.
  */
 #include "support.h"
 
@@ -114,11 +114,6 @@ static const struct item_case rows[] = {
     {"reserved space before", M("02", "00", "0003") "0671A1B10002", "00014100000002424300", 1, 0, 0x02, 7, 2},
     {"no bytes, at the end", M("02", "01", "0003") "0671A1B10002", "0001410000", 1, 0, 0x02, 5, 0},
 };
-
-static bool is_whole(uint32_t type)
-{
-    return type == FDOCA_TYPE_WHOLE || type == FDOCA_TYPE_WHOLE_REVERSED;
-}
 
 /* The calls that read numbers refuse a first item of another type, null or not. */
 static void test_wrong_type(const struct item_case *c, struct bytes d, struct bytes s)

@@ -26,18 +26,35 @@ static void add(struct bytes *bytes, const uint8_t *triplet)
 static const uint8_t wholes[] = {12, 0x70, 1, 0x23, 0, 0, 0, 0, 0, 0, 0, 8};
 static const uint8_t decimals[] = {12, 0x70, 1, 0x30, 0, 0, 0, 0, 0, 0, 15, 2};
 
-/* An SDA of id 1 and 254 rows, each of them the row before it and one item more: 255 levels. The last row repeats them, to
- * make 4,096 items. A row that is only another row once would be no level: the library enters the other at once. */
-static struct bytes nest(const uint8_t *sda, bool lower_first)
+/* What lies over the SDA of id 1, and where in its groups a row refers to the lower one. */
+struct form {
+    const char *name;
+    bool over_columns, lower_first;
+};
+
+static const struct form forms[] = {
+    {"lower row last", false, false},
+    {"lower row first", false, true},
+    {"over columns, lower row last", true, false},
+    {"over columns, lower row first", true, true},
+};
+
+/* An SDA of id 1 and 254 rows, each of them the row before it and one item more: 255 levels. Over columns, the first of the
+ * rows is a GDA. The last row repeats them, to make 4,096 items. A row that is only another row once would be no level: the
+ * library enters the other at once. */
+static struct bytes nest(const uint8_t *sda, const struct form *form)
 {
     struct bytes bytes = {room(FDOCA_MAX_DESCRIPTOR), 0};
+    const uint8_t *given = sda + 10; /* the length, or the digits */
 
     add(&bytes, sda);
     for (unsigned id = 2; id <= 255; id++) {
         uint8_t own = (uint8_t)id, lower = (uint8_t)(id - 1);
         uint8_t times = id < 255 ? 1 : 16, more = id < 255 ? 1 : 32;
 
-        if (lower_first)
+        if (id == 2 && form->over_columns)
+            add(&bytes, (const uint8_t[]){9, 0x75, own, 1, given[0], given[1], 1, given[0], given[1]});
+        else if (form->lower_first)
             add(&bytes, (const uint8_t[]){9, 0x71, own, lower, 0, times, 1, 0, more});
         else
             add(&bytes, (const uint8_t[]){9, 0x71, own, 1, 0, more, lower, 0, times});
@@ -139,16 +156,16 @@ static size_t on_thread(struct job *job, size_t size)
 }
 
 /* Makes a call on one of the nests; tells in words how much stack it took. */
-static void test_call(const struct call *call, bool lower_first, uint8_t *spacious, uint8_t *stated)
+static void test_call(const struct call *call, const struct form *form, uint8_t *spacious, uint8_t *stated)
 {
     char name[80];
     struct job job = {call->make, spacious, false, 0};
 
-    descriptor = nest(call->sda, lower_first);
+    descriptor = nest(call->sda, form);
 
     size_t thread = on_thread(&job, SPACIOUS);
 
-    snprintf(name, sizeof name, "%s, %s", call->name, lower_first ? "lower row first" : "lower row last");
+    snprintf(name, sizeof name, "%s, %s", call->name, form->name);
     printf("%s: %zu bytes of stack, with the thread's own %zu of %d\n", name, job.taken, thread, FDOCA_STACK);
     expect(job.good, "call on the deepest nest", name);
     expect(thread <= FDOCA_STACK, "takes no more stack than stated", name);
@@ -164,9 +181,9 @@ int main(void)
 
     data = zeros(FDOCA_MAX_DATA);
     data.at[FDOCA_MAX_DATA - 1] = 0x7D;
-    for (int lower_first = 0; lower_first < 2; lower_first++)
+    for (size_t form = 0; form < COUNT(forms); form++)
         for (size_t i = 0; i < COUNT(calls); i++)
-            test_call(&calls[i], lower_first, spacious, stated);
+            test_call(&calls[i], &forms[form], spacious, stated);
     free(data.at);
     return finish();
 }

@@ -74,6 +74,11 @@ static inline unsigned digit(char c)
     return c <= '9' ? (unsigned)(c - '0') : (unsigned)(c - 'A') + 10;
 }
 
+static inline bool is_whole(uint32_t type)
+{
+    return type == FDOCA_TYPE_WHOLE || type == FDOCA_TYPE_WHOLE_REVERSED;
+}
+
 static inline struct bytes hex(const char *text)
 {
     struct bytes bytes = zeros(strlen(text) / 2);
@@ -180,6 +185,33 @@ static inline void expect_refused(struct bytes d, struct bytes s, uint32_t item,
     expect(lend_gives(d, s, item, number, place, 0, 0), "lend refused", name);
     expect(whole_gives(d, s, item, number, place, 0, 0), "whole number refused", name);
     expect(packed_gives(d, s, item, number, place, 0, 0, 0), "packed decimal refused", name);
+}
+
+/* A descriptor: number, place and items of the check. */
+struct check_case {
+    const char *name;
+    const char *descriptor;
+    uint32_t number, place, items;
+};
+
+/* What the check refuses, the other calls refuse too. */
+static inline void test_checks(const struct check_case *cases, size_t count)
+{
+    struct bytes none = zeros(0);
+
+    for (size_t i = 0; i < count; i++) {
+        const struct check_case *c = &cases[i];
+        struct bytes d = hex(c->descriptor);
+
+        expect(check_gives(d, c->number, c->place, c->items), "check", c->name);
+        if (c->number != 0) {
+            expect(list_refuses(d, none, FDOCA_MAX_LIST, c->number, c->place), "list, bad descriptor", c->name);
+            expect(list_refuses(d, none, 0, c->number, c->place), "empty list, bad descriptor", c->name);
+            expect_refused(d, none, 0, c->number, c->place, c->name);
+        }
+        free(d.at);
+    }
+    free(none.at);
 }
 
 #endif
