@@ -1,7 +1,7 @@
 //! The blocks that are timed.
 
 use library::generate::{full_descriptor, Random};
-use library::triplets::{row, sda};
+use library::triplets::{column, layout, row, sda};
 use library::MAX_DESCRIPTOR;
 
 pub struct Input {
@@ -13,6 +13,11 @@ pub struct Input {
 pub fn inputs() -> Vec<Input> {
     vec![
         input("rows of 20 columns", rows_of_columns(), mixed_rows(ROWS)),
+        input(
+            "rows by a group triplet",
+            rows_by_a_group(),
+            mixed_rows(ROWS),
+        ),
         input(
             "fixed integers",
             sda(1, 0x23, 0, 8, &[4096]),
@@ -76,6 +81,18 @@ fn rows_of_columns() -> Vec<u8> {
     }
     let groups: Vec<[u8; 3]> = (1..=20).map(|id| [id, 0, 1]).collect();
     descriptor.extend(row(21, &groups));
+    descriptor.extend(row(22, &[[21, 0, ROWS as u8]]));
+    descriptor
+}
+
+/// The same rows, whose columns have their lengths from a GDA.
+fn rows_by_a_group() -> Vec<u8> {
+    let (mut descriptor, mut columns) = (Vec::new(), Vec::new());
+    for (id, (type_code, mode, length)) in (1..).zip(COLUMNS) {
+        descriptor.extend(sda(id, type_code, mode, 4, &[]));
+        columns.push(column(id, length));
+    }
+    descriptor.extend(layout(21, &columns));
     descriptor.extend(row(22, &[[21, 0, ROWS as u8]]));
     descriptor
 }

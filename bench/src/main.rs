@@ -5,7 +5,7 @@
 //! of each program named by the arguments measure, and the table has their medians.
 //! The programs differ in where the library's code lies. Those behind `--beside` are
 //! another work tree's: they measure by turns with the others, and have a table of their
-//! own.
+//! own. A mean is over the inputs that every tree has.
 
 mod fast;
 mod inputs;
@@ -55,11 +55,21 @@ fn main() -> io::Result<()> {
             }
         }
     }
-    trees.iter().for_each(print_tree);
+    for tree in &trees {
+        print_tree(tree, |row| trees.iter().all(|tree| tree.has(row)));
+    }
     Ok(())
 }
 
-fn print_tree(tree: &Tree) {
+impl Tree<'_> {
+    /// Whether this call on this input was measured.
+    fn has(&self, row: &Measurement) -> bool {
+        let mut rows = self.runs.iter().flatten();
+        rows.any(|own| own.call == row.call && own.input == row.input)
+    }
+}
+
+fn print_tree(tree: &Tree, is_shared: impl Fn(&Measurement) -> bool) {
     let Some(first) = tree.runs.first() else {
         return;
     };
@@ -68,6 +78,8 @@ fn print_tree(tree: &Tree) {
         .collect();
     println!("{}", tree.programs[0].display());
     print_table(&rows);
+    print_means(&rows, is_shared);
+    print_longest(&rows);
 }
 
 fn measure_in_process(program: &Path) -> io::Result<Vec<Measurement>> {
@@ -111,11 +123,17 @@ fn print_table(rows: &[Measurement]) {
         );
     }
     println!();
+}
+
+fn print_means(rows: &[Measurement], is_shared: impl Fn(&Measurement) -> bool) {
     for call in ["list", "list anew", "state", "check"] {
-        let of_call = rows.iter().filter(|row| row.call == call);
+        let of_call = rows.iter().filter(|row| row.call == call && is_shared(row));
         let ratios: Vec<f64> = of_call.map(|row| row.timing.ratio).collect();
         println!("{call}: geometric mean {:.2}", geometric_mean(&ratios));
     }
+}
+
+fn print_longest(rows: &[Measurement]) {
     let longest = rows
         .iter()
         .max_by(|one, other| one.timing.library.total_cmp(&other.timing.library));

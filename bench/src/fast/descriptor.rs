@@ -1,5 +1,7 @@
 //! The check of a descriptor, and its unfolding into fields.
 
+use std::num::NonZeroU16;
+
 use library::{Refusal, MAX_DESCRIPTOR};
 
 use super::item::{Field, Layout, FREE};
@@ -16,6 +18,7 @@ const NAME_TAKEN: u32 = 7;
 const MISSING_REFERENCE: u32 = 8;
 const NOT_CARRIED: u32 = 9;
 const TOO_MANY_ITEMS: u32 = 10;
+const COLUMN_MISFIT: u32 = 21;
 
 /// The lengths of floats whose field length is none of 4, 8 and 16.
 const HEXADECIMAL_DEFAULT: u16 = 8;
@@ -30,7 +33,8 @@ pub struct Descriptor {
     places: [u8; 256],
     triplets: Vec<Triplet>,
     groups: Vec<Group>,
-    /// The last triplet's id if it is an RLO, which CPTs may continue.
+    columns: Vec<Field>,
+    /// The last triplet's id if it is an RLO or a GDA, which CPTs may continue.
     open: Option<u8>,
 }
 
@@ -42,16 +46,19 @@ struct Triplet {
 
 #[derive(Clone, Copy)]
 enum Contents {
-    /// The field, and the items of one element if there are extents.
+    /// The field and its mode, and the items of one element if there are extents.
     Sda {
         field: Field,
-        per_element: Option<u16>,
+        mode: u8,
+        per_element: Option<NonZeroU16>,
     },
     /// The groups from the first to before the end.
     Rlo { first: u16, end: u16 },
+    /// The columns from the first to before the end.
+    Gda { first: u16, end: u16 },
 }
 
-/// So many repetitions of so many items of an SDA, or of a whole RLO.
+/// So many repetitions of so many items of an SDA, or of a whole RLO or GDA.
 #[derive(Clone, Copy)]
 struct Group {
     triplet: u8,
@@ -65,6 +72,7 @@ impl Default for Descriptor {
             places: [NONE; 256],
             triplets: Vec::new(),
             groups: Vec::new(),
+            columns: Vec::new(),
             open: None,
         }
     }
@@ -78,6 +86,7 @@ impl Descriptor {
         self.places.fill(NONE);
         self.triplets.clear();
         self.groups.clear();
+        self.columns.clear();
         self.open = None;
         let mut rest = descriptor;
         while let [length, ..] = *rest {
@@ -108,8 +117,13 @@ impl Descriptor {
             match last.contents {
                 Contents::Sda { field, .. } => fields.resize(last.count.into(), field),
                 Contents::Rlo { first, end } => self.unfold_groups(first, end, fields),
+                Contents::Gda { first, end } => fields.extend(self.columns(first, end)),
             }
         }
+    }
+
+    fn columns(&self, first: u16, end: u16) -> &[Field] {
+        &self.columns[first.into()..end.into()]
     }
 
     fn unfold_groups(&self, first: u16, end: u16, fields: &mut Vec<Field>) {
@@ -119,14 +133,14 @@ impl Descriptor {
                 Contents::Sda { field, .. } => {
                     let items = usize::from(group.items) * usize::from(group.factor);
                     fields.resize(from + items, field);
+                    continue;
                 }
-                Contents::Rlo { first, end } => {
-                    self.unfold_groups(first, end, fields);
-                    let to = fields.len();
-                    for _ in 1..group.factor {
-                        fields.extend_from_within(from..to);
-                    }
-                }
+                Contents::Rlo { first, end } => self.unfold_groups(first, end, fields),
+                Contents::Gda { first, end } => fields.extend(self.columns(first, end)),
+            }
+            let to = fields.len();
+            for _ in 1..group.factor {
+                fields.extend_from_within(from..to);
             }
         }
     }
@@ -138,6 +152,7 @@ impl Descriptor {
         match construct {
             0x70 => self.sda(body),
             0x71 => self.rlo(body),
+            0x75 => self.gda(body),
             0x7F => self.cpt(body),
             0x7E if place == 0 => isd(body),
             0x7E => Err(OUT_OF_SEQUENCE),
@@ -152,7 +167,7 @@ impl Descriptor {
         if !matches!(extents.len(), 0 | 2 | 4 | 6) {
             return Err(BAD_LENGTH);
         }
-        let field = field(id, type_code, parameters).ok_or(BAD_PARAMETER)?;
+        let (field, mode) = field(id, type_code, parameters).ok_or(BAD_PARAMETER)?;
         let mut extents = extents
             .chunks_exact(2)
             .map(|extent| u64::from(u16::from_be_bytes([extent[0], extent[1]])));
@@ -172,7 +187,8 @@ impl Descriptor {
             count: count as u16,
             contents: Contents::Sda {
                 field,
-                per_element: highest.map(|_| lower as u16),
+                mode,
+                per_element: highest.and(NonZeroU16::new(lower as u16)),
             },
         });
         self.places[usize::from(id)] = self.triplets.len() as u8;
@@ -181,13 +197,7 @@ impl Descriptor {
 
     fn rlo(&mut self, body: &[u8]) -> Result<(), u32> {
         self.close();
-        let (id, groups) = groups(body)?;
-        if id == 0 {
-            return Err(BAD_PARAMETER);
-        }
-        if self.places[usize::from(id)] != NONE {
-            return Err(NAME_TAKEN);
-        }
+        let (id, groups) = self.named_groups(body)?;
         let first = self.groups.len() as u16;
         let count = self.add_groups(0, groups)?;
         self.triplets.push(Triplet {
@@ -201,6 +211,34 @@ impl Descriptor {
         Ok(())
     }
 
+    fn gda(&mut self, body: &[u8]) -> Result<(), u32> {
+        self.close();
+        let (id, groups) = self.named_groups(body)?;
+        let first = self.columns.len() as u16;
+        let count = self.add_columns(0, groups)?;
+        self.triplets.push(Triplet {
+            count,
+            contents: Contents::Gda {
+                first,
+                end: self.columns.len() as u16,
+            },
+        });
+        self.open = Some(id);
+        Ok(())
+    }
+
+    /// The id and the groups of an RLO or a GDA.
+    fn named_groups<'b>(&self, body: &'b [u8]) -> Result<(u8, &'b [u8]), u32> {
+        let (id, groups) = groups(body)?;
+        if id == 0 {
+            return Err(BAD_PARAMETER);
+        }
+        if self.places[usize::from(id)] != NONE {
+            return Err(NAME_TAKEN);
+        }
+        Ok((id, groups))
+    }
+
     fn cpt(&mut self, body: &[u8]) -> Result<(), u32> {
         if self.open.is_none() {
             return Err(OUT_OF_SEQUENCE);
@@ -210,11 +248,15 @@ impl Descriptor {
             return Err(BAD_PARAMETER);
         }
         let before = self.count() as u16;
-        let total = self.add_groups(before, groups)?;
-        let last = self.groups.len() as u16;
+        let (total, last) = match self.triplets.last().map(|open| open.contents) {
+            Some(Contents::Gda { .. }) => {
+                (self.add_columns(before, groups)?, self.columns.len() as u16)
+            }
+            _ => (self.add_groups(before, groups)?, self.groups.len() as u16),
+        };
         if let Some(Triplet {
             count,
-            contents: Contents::Rlo { end, .. },
+            contents: Contents::Rlo { end, .. } | Contents::Gda { end, .. },
         }) = self.triplets.last_mut()
         {
             *count = total;
@@ -223,8 +265,8 @@ impl Descriptor {
         Ok(())
     }
 
-    /// No CPT follows any more: the open RLO can now be referred to. One that only
-    /// names another RLO once stands for that one, so that long chains of references
+    /// No CPT follows any more: the open RLO or GDA can now be referred to. An RLO that
+    /// only names another RLO once stands for that one, so that long chains of references
     /// are not followed again and again.
     fn close(&mut self) {
         let Some(id) = self.open.take() else {
@@ -242,14 +284,12 @@ impl Descriptor {
         self.places[usize::from(id)] = place.unwrap_or(self.triplets.len() as u8);
     }
 
-    /// Adds an RLO's or a CPT's groups, and gives the row's count up to them.
+    /// Adds an RLO's or its CPT's groups, and gives the row's count up to them.
     fn add_groups(&mut self, count: u16, groups: &[u8]) -> Result<u16, u32> {
         let mut total = u64::from(count);
         for group in groups.chunks_exact(3) {
             let (id, taken, factor) = (group[0], group[1], group[2]);
-            let triplet = self.places[usize::from(id)]
-                .checked_sub(1)
-                .ok_or(MISSING_REFERENCE)?;
+            let triplet = self.place(id)?;
             let lower = self.triplets[usize::from(triplet)];
             let items = match lower.contents {
                 _ if factor == 0 => return Err(NOT_CARRIED),
@@ -257,7 +297,7 @@ impl Descriptor {
                 Contents::Sda {
                     per_element: Some(count),
                     ..
-                } => u64::from(taken) * u64::from(count),
+                } => u64::from(taken) * u64::from(count.get()),
                 _ => return Err(NOT_CARRIED),
             };
             total += u64::from(factor) * items;
@@ -272,9 +312,37 @@ impl Descriptor {
         }
         Ok(total as u16)
     }
+
+    /// Adds a GDA's or its CPT's groups, and gives the GDA's count up to them.
+    fn add_columns(&mut self, count: u16, groups: &[u8]) -> Result<u16, u32> {
+        for group in groups.chunks_exact(3) {
+            let (id, length) = (group[0], u16::from_be_bytes([group[1], group[2]]));
+            let place = self.place(id)?;
+            let Contents::Sda {
+                field,
+                mode,
+                per_element: None,
+            } = self.triplets[usize::from(place)].contents
+            else {
+                return Err(COLUMN_MISFIT);
+            };
+            self.columns.push(match length {
+                0 => field,
+                _ => replaced(field, mode, length).ok_or(COLUMN_MISFIT)?,
+            });
+        }
+        Ok(count + (groups.len() / 3) as u16)
+    }
+
+    /// Where among the triplets the one with this id is.
+    fn place(&self, id: u8) -> Result<u8, u32> {
+        self.places[usize::from(id)]
+            .checked_sub(1)
+            .ok_or(MISSING_REFERENCE)
+    }
 }
 
-/// The id and the groups of an RLO or a CPT.
+/// The id and the groups of an RLO, a GDA or a CPT.
 fn groups(body: &[u8]) -> Result<(u8, &[u8]), u32> {
     match body {
         [id, groups @ ..] if !groups.is_empty() && groups.len() % 3 == 0 => Ok((*id, groups)),
@@ -290,13 +358,13 @@ fn isd(body: &[u8]) -> Result<(), u32> {
     }
 }
 
-/// The field of an SDA if its id, type and parameters are good.
-fn field(id: u8, type_code: u8, parameters: &[u8; 8]) -> Option<Field> {
+/// The field of an SDA and its mode, if its id, type and parameters are good.
+fn field(id: u8, type_code: u8, parameters: &[u8; 8]) -> Option<(Field, u8)> {
     let [0, 0, bias_high, bias_low, 0, mode, high, low] = *parameters else {
         return None;
     };
     let length = match (type_code & 0x7F, u16::from_be_bytes([high, low])) {
-        (0x30, _) => packed_length(high, low)?,
+        (0x30, given) => packed_length(given)?,
         (_, given @ (4 | 8 | 16)) => given,
         (0x40, _) => HEXADECIMAL_DEFAULT,
         (0x47 | 0x48, _) => BINARY_DEFAULT,
@@ -306,13 +374,29 @@ fn field(id: u8, type_code: u8, parameters: &[u8; 8]) -> Option<Field> {
     if id == 0 || u16::from_be_bytes([bias_high, bias_low]) > highest_bias {
         return None;
     }
+    Some((field_of_length(id, type_code, mode, length)?, mode))
+}
+
+/// The field of an SDA whose length, or digits, a GDA replaces by others that are good.
+fn replaced(field: Field, mode: u8, given: u16) -> Option<Field> {
+    let length = match field.type_code & 0x7F {
+        0x30 => packed_length(given)?,
+        _ => given,
+    };
+    field_of_length(field.id, field.type_code, mode, length)
+}
+
+/// A field of so many bytes, if its type has them in this mode.
+#[inline(always)]
+fn field_of_length(id: u8, type_code: u8, mode: u8, length: u16) -> Option<Field> {
     let layout = match (type_code & 0x7F, length, mode) {
         (0x01, 0..=32_767, 0) => Layout::Fixed,
         (0x02, 0..=32_767, 0 | 1) => Layout::Variable,
         (0x03, 0..=32_767, 0 | 1) => Layout::Terminated,
         (0x07, 0..=255, 0 | 1) => Layout::Short,
         (0x23 | 0x24, 2 | 4 | 8, 0) => Layout::Fixed,
-        (0x30 | 0x40, _, 0) => Layout::Fixed,
+        (0x30, _, 0) => Layout::Fixed,
+        (0x40, 4 | 8 | 16, 0) => Layout::Fixed,
         (0x47 | 0x48, 4 | 8, 0) => Layout::Fixed,
         _ => return None,
     };
@@ -327,7 +411,8 @@ fn field(id: u8, type_code: u8, parameters: &[u8; 8]) -> Option<Field> {
 }
 
 /// The bytes of a packed decimal, if its digits and fraction digits are good.
-fn packed_length(digits: u8, fraction_digits: u8) -> Option<u16> {
+fn packed_length(length: u16) -> Option<u16> {
+    let [digits, fraction_digits] = length.to_be_bytes();
     let is_good = (1..=18).contains(&digits) && fraction_digits <= digits;
     is_good.then(|| u16::from(digits / 2 + 1))
 }
