@@ -1,5 +1,4 @@
--- The parameters that a type allows, by the numbers of its rule, the size that holds, and the ways through `shape_of`, `layout_of` and
--- `good_length`.
+-- The parameters that a type allows, by the numbers of its rule, the size that holds, and the ways through `shape_of` and `good_length`.
 -- Assumes nothing.
 use mathlib.Core.Path.{_≡_, refl, sym, _∙_, ap}
 use Prim.Native.Nat.{ℕ, _+_, _*_, _/_, _%_, _<_, _≤_, zero-le}
@@ -246,11 +245,6 @@ module _ (code : ℕ) (ps : List ℕ) where
     pub by-shape : (good : Bool) → good ≡ true → record { layout = r .prefix; size = size } ≡ shapeIf good code ps
     unfolding encoded inNumbers shapeIf shapeOf layoutNumber
     by-shape good h = rw (h, size-is, held-is (ruleFor (typeOf code)) a b low (few (typeOf code)) .0, rule-is, ea, eb)
-
--- the way through `layout_of`
-pub layout-is : (code : ℕ) (r : Rule) → r ≡ encoded (typeOf code) → r .prefix ≡ layoutNumber code
-unfolding encoded inNumbers layoutNumber
-layout-is code r e = ap (λ q. q .prefix) e
 
 -- the ways through `good_length`, a and b being the numbers that the bytes p and q are
 suits-type : (o : Option FieldType) (a b : ℕ) → suits (ruleFor o) a b ≡ suitsType o a b

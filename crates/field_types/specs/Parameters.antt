@@ -57,6 +57,10 @@ goodEight code ps = eqb (length ps) 8 && goodType (typeOf code) ps
 unfoldable pub layoutNumber : (code : ℕ) → ℕ
 layoutNumber code = formOf (ruleFor (typeOf code) .sizes) (ruleFor (typeOf code) .layout)
 
+-- The size of a code's type is in digits.
+unfoldable pub inDigits : (code : ℕ) → Bool
+inDigits code = eqb (layoutNumber code) 4
+
 -- A size as one number: F, or the digits and the fraction digits in a byte each.
 abbrev pub sizeNumber : Size → ℕ
 sizeNumber (bytes F) = F

@@ -4,7 +4,7 @@ ghost use lib.ListN.{length};
 ghost use Rattle.fdoca.specs.FieldType.{plain, typeOf};
 ghost use Rattle.fdoca.specs.Check.{goodLength};
 ghost use Rattle.field_types.specs.Rows.{encoded, ruleAt};
-ghost use Rattle.field_types.specs.Parameters.{unusedZero, sizeHeld, lengthAllowed, digitsAllowed, sizeAllowed, ruleAllows, goodEight, layoutNumber, noShape, shapeIf};
+ghost use Rattle.field_types.specs.Parameters.{unusedZero, sizeHeld, lengthAllowed, digitsAllowed, sizeAllowed, ruleAllows, goodEight, inDigits, noShape, shapeIf};
 use numbers::pair;
 use numbers::wide;
 
@@ -13,6 +13,9 @@ const NO_SIZE: usize = 65536;
 
 // The number that stands for the layout of a packed decimal, whose size is in digits.
 pub const DIGITS: u8 = 4;
+
+// The plain code of a packed decimal.
+const PACKED: u8 = 0x30;
 
 // A number that no layout has.
 pub const NO_LAYOUT: u8 = 255;
@@ -214,12 +217,12 @@ fn rule_of(code: u8) -> Rule
     rule_at(plain)
 }
 
-// The layout's number by that rule, DIGITS of a packed decimal.
-pub fn layout_of(code: u8) -> u8
-    ensures { λ r. ⌜ r ≡ layoutNumber code ⌝ }
+// Whether the size of a code's type is in digits: that of a packed decimal.
+pub fn in_digits(code: u8) -> bool
+    ensures { λ r. ⌜ r ≡ inDigits code ⌝ }
 {
-    let rule = rule_of(code);
-    rule.prefix
+    let plain = plain_code(code);
+    plain == PACKED
 }
 
 // Whether the bytes that hold no type parameter are zero.

@@ -1,17 +1,20 @@
 -- The entry of a field whose length a group triplet gives.
 -- Assumes nothing.
-use mathlib.Core.Path.{_≡_, ap, _∙_}
+use mathlib.Core.Path.{_≡_, refl, sym, _∙_}
 use Prim.Native.Nat.{ℕ, _+_, _*_, _/_, _%_, _<_}
 use native.Mathlib.Omega.{arith}
 use mathlib.Core.Bool.{Bool, true, false}
 use mathlib.Core.Option.{some}
-use borrow.Author.Tests.{lt-ltb, le-ltb}
+use borrow.Author.Tests.{lt-ltb, le-ltb, eqb-true, eqb-false}
+use lib.Dec.{eqb}
 use Rattle.fdoca.specs.Basics.{if_then_else_}
-use Rattle.fdoca.specs.FieldType.{typeOf, Size, sizeOf, replaces, ruleOf}
+use Rattle.fdoca.specs.FieldType.{typeOf, Size, Sizes, upTo, oneOf, digitsUpTo, sizeOf, replaces, ruleOf}
 use Rattle.fdoca.specs.Item.{Field}
 use Rattle.fdoca.specs.Check.{suitsType, goodLength}
 use Rattle.fdoca.specs.Unfolding.{column}
-use Rattle.field_types.specs.Parameters.{layoutNumber}
+use Rattle.field_types.specs.Rows.{prefixOf, formOf, ruleFor}
+use Rattle.field_types.specs.Parameters.{layoutNumber, inDigits}
+use Rattle.field_types.proofs.Rows.{prefix-below-4}
 use Rattle.fields.specs.Plan.{entryOf, Proper}
 use Rattle.fields.specs.Parts.{entryBy}
 use Rattle.fields.specs.Replaced.{Replaced}
@@ -26,23 +29,48 @@ own-part : (f : Field) → Proper f → entryOf f / 65536 % 16777216 ≡ f .id +
 unfolding entryOf
 own-part f h = omega (arith, h .length-fits, h .id-fits, h .code-fits, h .mode-fits)
 
+-- the layout in an entry, and that of a type whose size is not in digits
+layout-part : (f : Field) → Proper f → entryOf f / 1099511627776 % 4 ≡ prefixOf (ruleOf (f .type) .layout)
+unfolding entryOf
+layout-part f h = omega (arith, h .length-fits, h .id-fits, h .code-fits, h .mode-fits, prefix-below-4 (ruleOf (f .type) .layout))
+
+own-layout : (f : Field) → typeOf (f .code) ≡ some (f .type) → (layoutNumber (f .code) ≡ 4 → ⊥) → layoutNumber (f .code) ≡ prefixOf (ruleOf (f .type) .layout)
+unfolding layoutNumber ruleFor formOf
+own-layout f t n = rw t (go (ruleOf (f .type) .sizes) (rw t at n))
+  where
+    go : (z : Sizes) → (formOf z (ruleOf (f .type) .layout) ≡ 4 → ⊥) → formOf z (ruleOf (f .type) .layout) ≡ prefixOf (ruleOf (f .type) .layout)
+    go (upTo m) k = refl
+    go (oneOf ms) k = refl
+    go (digitsUpTo m) k = absurd (k refl)
+
 -- the ways through `replaced`, a and b being the numbers that the bytes p and q are
 module _ (entry p q a b : ℕ) (ea : a ≡ p) (eb : b ≡ q) where
   pub replaced-by-none : a * 256 + b ≡ 0 → Replaced entry p q entry
   replaced-by-none e = record { same = λ f h t k. k ∙ rw (← ea, ← eb, le-ltb 0 (a * 256 + b) (omega arith)) }
 
-  pub replaced-by-some : (own code layout r : ℕ) → a < 256 → b < 256 → (a * 256 + b ≡ 0 → ⊥) → own ≡ entry / 65536 % 16777216 → code ≡ own / 256 % 256
-      → layout ≡ layoutNumber code → r ≡ entryBy own layout (a * 256 + b) → Replaced entry p q r
-  replaced-by-some own code layout r high low above eo ec el er = record { same = λ f h t k. go f h t k }
-    where
-      go : (f : Field) → Proper f → typeOf (f .code) ≡ some (f .type) → entry ≡ entryOf f → r ≡ entryOf (column p q f)
-      go f h t k =
-          let size : Size = sizeOf (ruleOf (f .type) .sizes) a b in
-          let (two, number) = two-bytes (ruleOf (f .type) .sizes) a b high low in
-          let o : own ≡ f .id + 256 * (f .code + 256 * f .mode) = eo ∙ rw k (own-part f h) in
-          let c : code ≡ f .code = omega (arith, h .id-fits, h .code-fits) in
-          er ∙ entry-made (sized f size) own layout (a * 256 + b) t two o (el ∙ ap layoutNumber c) number
-          ∙ rw (← ea, ← eb, lt-ltb 0 (a * 256 + b) (omega (arith, above)))
+  module _ (own code : ℕ) (high : a < 256) (low : b < 256) (above : a * 256 + b ≡ 0 → ⊥) (eo : own ≡ entry / 65536 % 16777216) (ec : code ≡ own / 256 % 256) where
+    replaced-by : (layout r : ℕ) → ((f : Field) → Proper f → typeOf (f .code) ≡ some (f .type) → entry ≡ entryOf f → code ≡ f .code → layout ≡ layoutNumber (f .code))
+        → r ≡ entryBy own layout (a * 256 + b) → Replaced entry p q r
+    replaced-by layout r el er = record { same = λ f h t k. go f h t k }
+      where
+        go : (f : Field) → Proper f → typeOf (f .code) ≡ some (f .type) → entry ≡ entryOf f → r ≡ entryOf (column p q f)
+        go f h t k =
+            let size : Size = sizeOf (ruleOf (f .type) .sizes) a b in
+            let (two, number) = two-bytes (ruleOf (f .type) .sizes) a b high low in
+            let o : own ≡ f .id + 256 * (f .code + 256 * f .mode) = eo ∙ rw k (own-part f h) in
+            let c : code ≡ f .code = omega (arith, h .id-fits, h .code-fits) in
+            er ∙ entry-made (sized f size) own layout (a * 256 + b) t two o (el f h t k c) number
+            ∙ rw (← ea, ← eb, lt-ltb 0 (a * 256 + b) (omega (arith, above)))
+
+    pub replaced-digits : (r : ℕ) (d : Bool) → d ≡ inDigits code → d ≡ true → r ≡ entryBy own 4 (a * 256 + b) → Replaced entry p q r
+    unfolding inDigits
+    replaced-digits r d ed h er = replaced-by 4 r (λ f g t k c. sym (eqb-true (layoutNumber (f .code)) 4 (rw c at (sym ed ∙ h)))) er
+
+    pub replaced-length : (layout r : ℕ) (d : Bool) → d ≡ inDigits code → d ≡ false → layout ≡ entry / 1099511627776 % 4 → r ≡ entryBy own layout (a * 256 + b)
+        → Replaced entry p q r
+    unfolding inDigits
+    replaced-length layout r d ed h el er =
+        replaced-by layout r (λ f g t k c. (let n : eqb (layoutNumber (f .code)) 4 ≡ false = rw c at (sym ed ∙ h) in el ∙ rw k (layout-part f g) ∙ sym (own-layout f t (eqb-false _ 4 n)))) er
 
 -- a length that suits its type leaves the field proper
 pub column-proper : (f : Field) (a b : ℕ) → Proper f → typeOf (f .code) ≡ some (f .type) → goodLength (f .code) a b ≡ true → Proper (column a b f)

@@ -5,6 +5,9 @@ ghost use Rattle.fields.specs.Parts.{lengthPart, layoutPart, entryBy};
 ghost use Rattle.fields.specs.Replaced.{Replaced};
 use numbers::wide64;
 
+// By what an entry is divided, so that the layout's number stands lowest.
+const LAYOUT: u64 = 1099511627776;
+
 // The length in bytes of a size: p / 2 + 1 of p digits.
 fn length_part(layout: u8, size: u64) -> u64
     requires { ⌜ size < 65536 ⌝ }
@@ -45,6 +48,9 @@ pub fn replaced(entry: u64, a: u8, b: u8) -> u64
     }
     let own = entry / 65536 % 16777216;
     let code = (own / 256 % 256) as u8;
-    let layout = field_types::layout_of(code);
+    if field_types::in_digits(code) {
+        return entry_of(own, field_types::DIGITS, size);
+    }
+    let layout = (entry / LAYOUT % 4) as u8;
     entry_of(own, layout, size)
 }

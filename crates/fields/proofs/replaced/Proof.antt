@@ -1,4 +1,4 @@
-use Rattle.fields.proofs.Replacing.{replaced-by-none, replaced-by-some}
+use Rattle.fields.proofs.Replacing.{replaced-by-none, replaced-digits, replaced-length}
 use borrow.Author.Needs.{needs}
 use Rattle.fields.proofs.replaced.Statement.{statement}
 use Rattle.fields.proofs.replaced.Tie as tie
@@ -21,14 +21,23 @@ returns c = search (replaced-by-none)
 cast-code : tie.Need-cast-code
 cast-code c = search needs
 
-layout-of-requires : tie.Need-layout-of-requires
-layout-of-requires c κs = search needs
+in-digits-requires : tie.Need-in-digits-requires
+in-digits-requires c κs = search needs
 
 entry-of-requires : tie.Need-entry-of-requires
 entry-of-requires c κs = search needs
 
 returns-2 : tie.Need-returns-2
-returns-2 c = search (replaced-by-some)
+returns-2 c = search (replaced-digits)
+
+cast-layout : tie.Need-cast-layout
+cast-layout c = search needs
+
+entry-of-requires-2 : tie.Need-entry-of-requires-2
+entry-of-requires-2 c κs = search needs
+
+returns-3 : tie.Need-returns-3
+returns-3 c = search (replaced-length)
 
 pub replaced-spec : {M : Type 1} → statement M
 replaced-spec =
@@ -40,6 +49,9 @@ replaced-spec =
     add-size
     returns
     cast-code
-    layout-of-requires
+    in-digits-requires
     entry-of-requires
-    returns-2)
+    returns-2
+    cast-layout
+    entry-of-requires-2
+    returns-3)
