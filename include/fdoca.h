@@ -136,7 +136,8 @@ enum fdoca_number {
  * characters the bytes of a string stand for is not told.
  *
  * A float whose SDA gives a field length other than 4, 8 or 16 has the default of its type: 8 bytes if it is hexadecimal,
- * 4 if it is binary. So all eight parameter bytes may be 0. A binary float of 16 bytes is refused by 6.
+ * 4 if it is binary. So all eight parameter bytes may be 0. A binary float of 16 bytes is refused, by 6, or by 21 where a GDA
+ * gives the length.
  */
 enum fdoca_type {
     FDOCA_TYPE_FIXED = 0x01,          /* 1, 129: a string of bytes, as long as its field */

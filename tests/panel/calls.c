@@ -174,13 +174,6 @@ static void test_figures(void)
 
 /* ---- data that are refused */
 
-struct refusal_case {
-    const char *name;
-    const char *descriptor;
-    const char *data;
-    uint32_t number, place;
-};
-
 static const struct refusal_case refusals[] = {
     {"the dump's block cut", S("81", "0003") "0671A1B10002", "00616263", 13, 4},
     {"the dump's block and one byte", S("81", "0003") "0671A1B10002", "006162638000", 16, 5},

@@ -302,13 +302,6 @@ static void test_blocks(const struct block_case *cases, size_t case_count)
 
 /* ---- data that are refused by the length given */
 
-struct refusal_case {
-    const char *name;
-    const char *descriptor;
-    const char *data;
-    uint32_t number, place;
-};
-
 static const struct refusal_case refusals[] = {
     {"variable, L above the length", M("02", "01", "0004") "0675D1B10002", "0003414243", 14, 0},
     {"variable, free at first", M("02", "00", "0000") "0975D1B10002B10001", "000241420002414200", 14, 4},

@@ -113,6 +113,14 @@ static inline bool still_old(const uint32_t *list, size_t from, size_t size)
     return true;
 }
 
+/* Data that are refused: the number and the place. */
+struct refusal_case {
+    const char *name;
+    const char *descriptor;
+    const char *data;
+    uint32_t number, place;
+};
+
 static inline bool list_refuses(struct bytes d, struct bytes s, size_t list_size, uint32_t number, uint32_t place)
 {
     uint32_t got_place = OLD;

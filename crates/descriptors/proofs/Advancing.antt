@@ -1,23 +1,37 @@
 -- The ways over the triplet at p, in the words of the code: its bytes are a part of the descriptor, and the row before it was closed.
 -- Assumes nothing.
 use mathlib.Core.Path.{_≡_, refl, sym, ap, _∙_}
-use mathlib.Core.Logic.{_≢_, inl, inr}
+use mathlib.Core.Logic.{_≢_, _⊎_, inl, inr}
 use Prim.Native.Nat.{ℕ, _+_, _-_, _≤_, _<_}
 use native.Mathlib.Omega.{arith}
 use native.Mathlib.Nat.{add-sub-cancel-left}
+use mathlib.Core.Bool.{Bool, true, false, true≢false}
 use mathlib.Core.List.{List}
+use lib.Dec.{eqb}
 use mathlib.Core.Option.{none}
 use lib.ListN.{length, getD, take, drop}
 use lib.Seq.{getD-take, getD-drop}
-use borrow.Author.Tests.{ne-eqb}
+use borrow.Author.Tests.{ne-eqb, eqb-true, eqb-false}
+use Rattle.fdoca.proofs.Tests.{by-test}
 use Rattle.fdoca.specs.Triplet.{constructOf}
 use Rattle.fdoca.specs.Unfolding.{closed}
 use Rattle.fdoca.specs.Between.{entries}
 use Rattle.sdas.specs.Tables.{Agreeing}
 use Rattle.triplets.specs.Judged.{JudgedISD}
 use Rattle.descriptors.specs.declared.Step.{Step}
-use Rattle.descriptors.specs.Holds.{Tables, EndsAt, no-CPT, Held, ClosedRow, Bare, SteppedSDA, SteppedRow, SteppedCPT, Advanced}
+use Rattle.descriptors.specs.Holds.{withGroups, Tables, EndsAt, no-CPT, Held, ClosedRow, Bare, SteppedSDA, SteppedRow, SteppedCPT, Advanced}
 use Rattle.descriptors.proofs.Moving.{sda-moved, row-moved, cpt-moved, isd-moved, other-moved}
+
+-- an RLO's construct type or a GDA's, and another one
+grouped : (k : ℕ) → withGroups k ≡ true → (k ≡ 0x71) ⊎ (k ≡ 0x75)
+unfolding withGroups
+grouped k = by-test (λ b. b ≡ true → (k ≡ 0x71) ⊎ (k ≡ 0x75)) (eqb k 0x71) (λ t h. inl (eqb-true k 0x71 t)) (λ t h. inr (eqb-true k 0x75 h))
+
+not-grouped : (k : ℕ) → withGroups k ≡ false → (k ≡ 0x71 → ⊥) × (k ≡ 0x75 → ⊥)
+unfolding withGroups
+not-grouped k =
+    by-test (λ b. b ≡ false → (k ≡ 0x71 → ⊥) × (k ≡ 0x75 → ⊥)) (eqb k 0x71) (λ t h. absurd (true≢false h))
+    (λ t h. (eqb-false k 0x71 t, eqb-false k 0x75 h))
 
 pub held-agree : (d s z e : List ℕ) (p : ℕ) (x : Step) → Held d s z e p x → Agreeing s z e
 held-agree d s z e p x held = record { described-ids = entries (held .0 .described); agrees = held .1 .tables .agrees }
@@ -47,23 +61,26 @@ module _ (d s z e : List ℕ) (p n k : ℕ) (x : Step) (held : Held d s z e p x)
     over-sda r s″ z″ e″ small q st =
         sda-moved d s z e s′ z′ e′ p n x r (held .0) (held .1) there en least whole small s″ z″ e″ tables (kind 0x70 q) (rw same at st)
 
-    pub over-rlo : (r : Step) → k ≡ 0x71 → SteppedRow (take (p + n - p) (drop p d)) p s′ z′ e′ r → Advanced d s′ z′ e′ p r
-    over-rlo r q st = row-moved d s z e s′ z′ e′ p n x r (held .0) (held .1) there en least whole tables (inl (kind 0x71 q)) (rw same at st)
-
-    pub over-gda : (r : Step) → k ≡ 0x75 → SteppedRow (take (p + n - p) (drop p d)) p s′ z′ e′ r → Advanced d s′ z′ e′ p r
-    over-gda r q st = row-moved d s z e s′ z′ e′ p n x r (held .0) (held .1) there en least whole tables (inr (kind 0x75 q)) (rw same at st)
+    pub over-row : (r : Step) (b : Bool) → b ≡ withGroups k → b ≡ true → SteppedRow (take (p + n - p) (drop p d)) p s′ z′ e′ r → Advanced d s′ z′ e′ p r
+    over-row r b eb h st =
+        row-moved d s z e s′ z′ e′ p n x r (held .0) (held .1) there en least whole tables (of-kind (grouped k (sym eb ∙ h))) (rw same at st)
+      where
+        of-kind : (k ≡ 0x71) ⊎ (k ≡ 0x75) → (getD (take n (drop p d)) 1 0 ≡ 0x71) ⊎ (getD (take n (drop p d)) 1 0 ≡ 0x75)
+        of-kind (inl q) = inl (kind 0x71 q)
+        of-kind (inr q) = inr (kind 0x75 q)
 
     pub over-isd : (r : Step) (m : ℕ) → k ≡ 0x7E → JudgedISD (take (p + n - p) (drop p d)) p m → Bare m r → Advanced d s′ z′ e′ p r
     over-isd r m q j b = isd-moved d s z e s′ z′ e′ p n m x r (held .0) (held .1) there en least whole tables (kind 0x7E q) (rw same at j) b
 
-    other : (r : Step) → (k ≡ 0x70 → ⊥) → (k ≡ 0x71 → ⊥) → (k ≡ 0x75 → ⊥) → (k ≡ 0x7E → ⊥) → Bare 3 r → Advanced d s′ z′ e′ p r
-    other r a b g c w =
-        let q : constructOf (take n (drop p d)) ≡ none = rw (kind k refl, ne-eqb k 0x70 a, ne-eqb k 0x71 b, ne-eqb k 0x75 g, ne-eqb k 0x7E c, ne-eqb k 0x7F nc) in
+    other : (r : Step) → (k ≡ 0x70 → ⊥) → withGroups k ≡ false → (k ≡ 0x7E → ⊥) → Bare 3 r → Advanced d s′ z′ e′ p r
+    other r a g c w =
+        let (b₁, b₅) = not-grouped k g in
+        let q : constructOf (take n (drop p d)) ≡ none = rw (kind k refl, ne-eqb k 0x70 a, ne-eqb k 0x71 b₁, ne-eqb k 0x75 b₅, ne-eqb k 0x7E c, ne-eqb k 0x7F nc) in
         other-moved d s z e s′ z′ e′ p n x r (held .0) (held .1) there en least whole q w
 
-pub over-other : (d s z e : List ℕ) (p n : ℕ) (x r : Step) → Held d s z e p x → p < length d → n ≡ getD d p 0 → 2 ≤ n → n ≤ length d - p
+pub over-other : (d s z e : List ℕ) (p n : ℕ) (x r : Step) (b : Bool) → Held d s z e p x → p < length d → n ≡ getD d p 0 → 2 ≤ n → n ≤ length d - p
     → (s′ z′ e′ : List ℕ) → ClosedRow d s z e s′ z′ e′ p x → (getD (take (p + n - p) (drop p d)) 1 0 ≡ 0x7F → ⊥)
-    → (getD (take (p + n - p) (drop p d)) 1 0 ≡ 0x70 → ⊥) → (getD (take (p + n - p) (drop p d)) 1 0 ≡ 0x71 → ⊥)
-    → (getD (take (p + n - p) (drop p d)) 1 0 ≡ 0x75 → ⊥) → (getD (take (p + n - p) (drop p d)) 1 0 ≡ 0x7E → ⊥) → Bare 3 r → Advanced d s′ z′ e′ p r
-over-other d s z e p n x r held there en least whole s′ z′ e′ cl nc a b g c w =
-    other d s z e p n (getD (take (p + n - p) (drop p d)) 1 0) x held there en least whole refl s′ z′ e′ cl nc r a b g c w
+    → (getD (take (p + n - p) (drop p d)) 1 0 ≡ 0x70 → ⊥) → b ≡ withGroups (getD (take (p + n - p) (drop p d)) 1 0) → b ≡ false
+    → (getD (take (p + n - p) (drop p d)) 1 0 ≡ 0x7E → ⊥) → Bare 3 r → Advanced d s′ z′ e′ p r
+over-other d s z e p n x r b held there en least whole s′ z′ e′ cl nc a eb h c w =
+    other d s z e p n (getD (take (p + n - p) (drop p d)) 1 0) x held there en least whole refl s′ z′ e′ cl nc r a (sym eb ∙ h) c w

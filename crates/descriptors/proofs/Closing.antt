@@ -8,7 +8,7 @@ use mathlib.Core.Option.{Option, none, some}
 use lib.ListN.{length, getD, set, drop}
 use lib.Seq.{getD-set-same}
 use Rattle.fdoca.specs.Basics.{lookup}
-use Rattle.fdoca.specs.Triplet.{Kind, rowLayout, Group}
+use Rattle.fdoca.specs.Triplet.{Kind, RLO, Group}
 use Rattle.fdoca.specs.Item.{Field}
 use Rattle.fdoca.specs.Unfolding.{Described, array, row, groupFields, addFields, Layouts, closeRow}
 use Rattle.fdoca.specs.Between.{entry}
@@ -65,11 +65,11 @@ module _ (d s e : List ℕ) (at p i : ℕ) (size : p - at ≡ 6) (once : getD d 
           let m : 0 < getD e (getD d (at + 3) 0) 0 = t .placed (getD d (at + 3) 0) (array f xs) q .kept .marked in
           let n : getD e (getD d (at + 3) 0) 0 ≡ 0 = rw ref at unmarked in
           absurd (let y : ⊥ = omega arith in y)
-      go z ds l h t r back (row l′) rowLayout ek q (of-row f m) =
+      go z ds l h t r back (row l′) RLO ek q (of-row f m) =
           let x : RowIn d s ds (getD s (getD d (at + 3) 0) 0) l′ = t .placed (getD d (at + 3) 0) (row l′) q .kept .made in
           let ei : v ≡ getD s (getD d (at + 3) 0) 0 = ev ∙ ap (λ n. getD s n 0) ref in
           let f : at + 3 + 2 ≡ at + 5 = omega arith in
-          let c : groupFields rowLayout ds g ≡ l′ = rw (q, all-taken (getD d (at + 3 + 1) 0) m, f, once) (append-nil l′) in
+          let c : groupFields RLO ds g ≡ l′ = rw (q, all-taken (getD d (at + 3 + 1) 0) m, f, once) (append-nil l′) in
           let el : l ≡ l′ = r .fields ∙ ap (addFields (kindAt d at) ds []) (only-group (omega arith) h) ∙ rw ek c in
           rw (ei, el) (omega arith, x)
         where

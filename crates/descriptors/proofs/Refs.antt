@@ -3,19 +3,19 @@
 use mathlib.Core.Path.{_≡_, refl, sym, ap, _∙_}
 use Prim.Native.Nat.{ℕ, zero, suc, _+_, _*_, _<_}
 use native.Mathlib.Omega.{arith}
-use mathlib.Core.Bool.{false, not, true≢false}
+use mathlib.Core.Bool.{not}
 use mathlib.Core.List.{List, [], _∷_}
 use mathlib.Core.Option.{Option, none, some}
 use lib.Dec.{ltb, eqb}
 use lib.ListN.{getD}
-use borrow.Author.Tests.{eqb-false, not-false}
+use borrow.Author.Tests.{eqb-false}
 use Rattle.fdoca.specs.Basics.{lookup, ok, _>>=_, _>>_, reject, the}
-use Rattle.fdoca.specs.Triplet.{Kind, rowLayout, groupArray, Group, taken, factor}
-use Rattle.fdoca.specs.Check.{maxItems, countTaken, goodLength, fits, countAdded, addGroup, addGroups}
+use Rattle.fdoca.specs.Triplet.{Kind, RLO, GDA, Group, taken, factor}
+use Rattle.fdoca.specs.Check.{maxItems, countTaken, fits, countAdded, addGroup, addGroups}
 use Rattle.fdoca.specs.Unfolding.{Described, array, row}
 use Rattle.fdoca.proofs.Results.{ok-bind, ok-reject}
 use Rattle.fdoca.specs.Between.{entry, entries}
-use Rattle.fdoca.proofs.Count.{entry?, lookup-entries}
+use Rattle.fdoca.proofs.Count.{entry?, lookup-entries, Fitting, single, fitting}
 use Rattle.plans.specs.Tied.{Takes, all, some-of, Makes, of-row, of-column}
 use Rattle.descriptors.specs.Holds.{RefersIn}
 use Rattle.descriptors.proofs.Rows.{AllGroups}
@@ -28,14 +28,12 @@ takes-of (suc k) n (array f (x ∷ xs)) e = some-of
 takes-of (suc k) n (row l) e = absurd (let z : _≡_ {A = ℕ} 0 1 = cc in let w : ⊥ = omega arith in w)
 
 -- what a group that is not refused makes
-fitting : (g : Group) (D : Described) → not (fits g (entry D)) ≡ false → Makes groupArray g D
-fitting g (array f []) h = of-column (not-false (goodLength (f .code) (g .byte1) (g .byte2)) h)
-fitting g (array f (x ∷ xs)) h = absurd (true≢false h)
-fitting g (row l) h = absurd (true≢false h)
+column-made : (g : Group) (D : Described) → Fitting g D → Makes GDA g D
+column-made g (array f []) (single h) = of-column h
 
 made-of : (kind : Kind) (p m : ℕ) (g : Group) (D : Described) → countAdded kind p g (entry D) ≡ ok m → Makes kind g D
 unfolding countAdded
-made-of rowLayout p m g D e =
+made-of RLO p m g D e =
     let a = ok-reject (eqb (factor g) 0) 9 p (the (countTaken (taken g) (entry D)) 9 p >>= (λ k. ok (factor g * k))) m e in
     let b = ok-bind (the (countTaken (taken g) (entry D)) 9 p) (λ k. ok (factor g * k)) m (a .1) in
     of-row (positive (factor g) (eqb-false (factor g) 0 (a .0))) (takes-of (taken g) (b .0) D (the-some (countTaken (taken g) (entry D)) (b .0) (b .1)))
@@ -47,7 +45,7 @@ made-of rowLayout p m g D e =
     the-some : (o : Option ℕ) (k : ℕ) → the o 9 p ≡ ok k → o ≡ some k
     the-some none k q = absurd (let z : _≡_ {A = ℕ} 0 1 = cc in let w : ⊥ = omega arith in w)
     the-some (some y) k q = cc
-made-of groupArray p m g D e = fitting g D (ok-reject (not (fits g (entry D))) 21 p (ok 1) m e .0)
+made-of GDA p m g D e = column-made g D (fitting g D (ok-reject (not (fits g (entry D))) 21 p (ok 1) m e .0))
 
 -- a group that was added
 record Added (kind : Kind) (g : Group) (x : Option Described) : Type 0 where

@@ -2,11 +2,12 @@
 use Prim.Native.Nat.{ℕ, _+_, _-_, _≤_, _<_}
 use mathlib.Core.Path.{_≡_}
 use mathlib.Core.Logic.{_≢_}
-use mathlib.Core.Bool.{true}
+use mathlib.Core.Bool.{Bool, true}
 use mathlib.Core.List.{List, [], _∷_, _++_}
 use mathlib.Core.Option.{Option, none, some}
 use lib.ListN.{length, getD, drop}
-use Rattle.fdoca.specs.Basics.{product, lookup, Result, refuse, ok}
+use lib.Dec.{eqb}
+use Rattle.fdoca.specs.Basics.{if_then_else_, product, lookup, Result, refuse, ok}
 use Rattle.fdoca.specs.Triplet.{triplets, Kind, Group, idOf, codeOf, extentsOf}
 use Rattle.fdoca.specs.Item.{Field}
 use Rattle.fdoca.specs.Check.{Entry, goodSDA, checkSDA, checkRow, checkCPT, checkTriplets, begin, check}
@@ -19,6 +20,10 @@ use Rattle.sdas.specs.Kept.{PutSDA}
 use Rattle.triplets.specs.Judged.{rowAtHand, GoodRow}
 use Rattle.descriptors.specs.declared.Step.{Step}
 use Rattle.descriptors.specs.declared.Examined.{Examined}
+
+-- The construct type of an RLO or a GDA.
+unfoldable pub withGroups : (type : ℕ) → Bool
+withGroups type = if eqb type 0x71 then true else eqb type 0x75
 
 -- A group of a row at p refers to one of the described ids ds, whose triplet stands before p.
 pub record RefersIn (kind : Kind) (s : List ℕ) (ds : List (ℕ × Described)) (p : ℕ) (g : Group) : Type 0 where

@@ -5,11 +5,12 @@ ghost use lib.ListN.{length, getD, replicate};
 ghost use Rattle.fdoca.specs.Check.{check};
 ghost use Rattle.fdoca.specs.Calls.{checked};
 ghost use Rattle.sdas.specs.Tables.{Agreeing};
-ghost use Rattle.descriptors.specs.Holds.{MakesSame, Held, ClosedRow, SteppedSDA, SteppedRow, SteppedCPT, Advanced, Bare, Examination};
+ghost use Rattle.descriptors.specs.Holds.{withGroups, MakesSame, Held, ClosedRow, SteppedSDA, SteppedRow, SteppedCPT, Advanced, Bare, Examination};
 use fdoca::Checked;
+use plans::GDA;
 
 // What the triplets so far have led to: a refusal's number, or the SDA, RLO or GDA that was described last, with its id (0 for none) and its
-// count. `head` is the construct type of an RLO or a GDA while a CPT may continue it, and `at` is then its place; else it is 0.
+// count, and its place. `head` is the construct type of an RLO or a GDA while a CPT may continue it, else 0.
 pub struct Step {
     pub number: u8,
     pub head: u8,
@@ -30,8 +31,6 @@ pub struct Examined {
 const SDA: u8 = 0x70;
 
 const RLO: u8 = 0x71;
-
-const GDA: u8 = 0x75;
 
 const ISD: u8 = 0x7E;
 
@@ -167,6 +166,16 @@ fn cpt_step(
     }
 }
 
+// Whether a construct type is that of an RLO or a GDA.
+fn has_groups(kind: u8) -> bool
+    ensures { λ r. ⌜ r ≡ withGroups kind ⌝ }
+{
+    if kind == RLO {
+        return true;
+    }
+    kind == GDA
+}
+
 // The step over the triplet at p, x being the step before.
 fn advance(
     desc: &[u8],
@@ -196,10 +205,7 @@ fn advance(
     if kind == SDA {
         return sda_step(t, p, starts, sizes, entries);
     }
-    if kind == RLO {
-        return row_step(t, p, starts, sizes, entries);
-    }
-    if kind == GDA {
+    if has_groups(kind) {
         return row_step(t, p, starts, sizes, entries);
     }
     if kind == ISD {

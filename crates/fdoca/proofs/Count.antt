@@ -9,9 +9,10 @@ use mathlib.Core.Bool.{Bool, true, false, not, _&&_, true≢false}
 use mathlib.Core.List.{List, [], _∷_, _++_}
 use mathlib.Core.Option.{Option, none, some}
 use lib.Dec.{ltb, eqb}
+use borrow.Author.Tests.{not-false}
 use lib.ListN.{length, length-append, length-replicate}
 use Rattle.fdoca.specs.Basics.{if_then_else_, elem, lookup, repeat, product, ok}
-use Rattle.fdoca.specs.Triplet.{Triplet, torn, triplet, triplets, Construct, SDA, RLO, GDA, ISD, CPT, Kind, rowLayout, groupArray, constructOf, idOf, codeOf, parametersOf, extentsOf, Group, taken, factor, groupsOf}
+use Rattle.fdoca.specs.Triplet.{Triplet, torn, triplet, triplets, Kind, RLO, GDA, Construct, SDA, ISD, CPT, grouped, constructOf, idOf, codeOf, parametersOf, extentsOf, Group, taken, factor, groupsOf}
 use Rattle.fdoca.specs.FieldType.{FieldType, typeOf}
 use Rattle.fdoca.specs.Item.{Field}
 use Rattle.fdoca.specs.Between.{entry, entries, rowCounted, state}
@@ -52,18 +53,25 @@ length-taken (suc k) (U.array f []) m e = cc
 length-taken (suc k) (U.array f (x ∷ xs)) m e = length-replicate (suc k * product xs) f ∙ cc
 length-taken (suc k) (U.row l) m e = cc
 
-length-column : (g : Group) (d : U.Described) → not (C.fits g (entry d)) ≡ false → 1 ≡ length (U.columnReferred g (some d))
-length-column g (U.array f []) h = refl
-length-column g (U.array f (x ∷ xs)) h = absurd (true≢false h)
-length-column g (U.row l) h = absurd (true≢false h)
+-- What a group of a GDA that is not refused refers to: an SDA without extents, for whose type its length is good.
+pub data Fitting (g : Group) : U.Described → Type 0 where
+  single : {f : Field} → C.goodColumn (f .code) (g .byte1) (g .byte2) ≡ true → Fitting g (U.array f [])
+
+pub fitting : (g : Group) (d : U.Described) → not (C.fits g (entry d)) ≡ false → Fitting g d
+fitting g (U.array f []) h = single (not-false (C.goodColumn (f .code) (g .byte1) (g .byte2)) h)
+fitting g (U.array f (x ∷ xs)) h = absurd (true≢false h)
+fitting g (U.row l) h = absurd (true≢false h)
+
+length-column : (g : Group) (d : U.Described) → Fitting g d → 1 ≡ length (U.columnReferred g (some d))
+length-column g (U.array f []) (single h) = refl
 
 count-added : (kind : Kind) (p : ℕ) (g : Group) (d : U.Described) → IfOk (λ k. k ≡ length (U.fieldsAdded kind g (some d))) (C.countAdded kind p g (entry d))
 unfolding C.countAdded
-count-added rowLayout p g d =
+count-added RLO p g d =
     reject-all (eqb (factor g) 0) 9 p
     (λ h. the-all (C.countTaken (taken g) (entry d)) 9 p
     (λ k e. holds (rw (length-repeat, length-taken (taken g) d k e))))
-count-added groupArray p g d = reject-all (not (C.fits g (entry d))) 21 p (λ h. holds (length-column g d h))
+count-added GDA p g d = reject-all (not (C.fits g (entry d))) 21 p (λ h. holds (length-column g d (fitting g d h)))
 
 add-group : (kind : Kind) (p n : ℕ) (g : Group) (o : Option U.Described)
     → IfOk (λ m. m ≡ n + length (U.fieldsAdded kind g o)) (C.addGroup kind p n g (entry? o))
@@ -141,8 +149,7 @@ check-construct : (c : Option Construct) (u : U.Layouts) (p : ℕ) (t : List ℕ
 unfolding C.checkConstruct U.unfoldConstruct
 check-construct none u p t = none-owed
 check-construct (some SDA) u p t = rw (closed-state u) (check-SDA u p t (typeOf (codeOf t)) refl)
-check-construct (some RLO) u p t = rw (closed-state u) (check-row rowLayout u p t)
-check-construct (some GDA) u p t = rw (closed-state u) (check-row groupArray u p t)
+check-construct (some (grouped kind)) u p t = rw (closed-state u) (check-row kind u p t)
 check-construct (some ISD) u p t = check-ISD u p t
 check-construct (some CPT) u p t = check-CPT u p t
 

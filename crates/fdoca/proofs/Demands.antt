@@ -17,11 +17,12 @@ use lib.ListN.{length, drop, getElem?}
 use borrow.Author.Tests.{le-ltb, lt-ltb}
 use Rattle.fdoca.specs.Basics.{if_then_else_, Result, refuse, ok, _>>=_, _>>_, reject, the}
 use Rattle.fdoca.specs.FieldType.{FieldType, fixed, typeOf, bytes, digits, sizeOf, ruleOf}
-use Rattle.fdoca.specs.Triplet.{groupArray, codeOf, parametersOf}
-use Rattle.fdoca.specs.Item.{Field}
+use Rattle.fdoca.specs.Triplet.{GDA, codeOf, parametersOf}
+use Rattle.fdoca.specs.Item.{Field, withSize}
 use Rattle.fdoca.specs.Walk.{Note, walk}
-use Rattle.fdoca.specs.Check.{maxDescriptor, maxItems, Entry, array, suitsType, goodLength, countAdded, addGroup, goodLengthSDA, checkSDA, check}
-use Rattle.fdoca.specs.Unfolding.{column, fieldOf, unfolded}
+use Rattle.fdoca.specs.Check.{maxDescriptor, maxItems, Entry, array, suitsType, goodColumn, countAdded, addGroup, goodLengthSDA, checkSDA, check}
+use Rattle.fdoca.specs.Unfolding.{fieldsAdded, fieldOf, unfolded}
+use Rattle.fdoca.specs.Unfolding as U
 use Rattle.fdoca.specs.Account.{Parts, Block, Packed}
 use Rattle.fdoca.specs.Calls.{maxData, oversize, itemList, list, itemAt, valueOf, wholeOf, wholeNumber, packed, checked, listed, entriesAfter, stateOf, lent, wholeAnswer, decimalAnswer}
 use Rattle.fdoca.specs.Packed.{packedNumber}
@@ -250,19 +251,22 @@ module _ (t : List ℕ) where
     pub sixteen-6 : OneOf (codeOf t) (0x47 ∷ 0x48 ∷ 0xC7 ∷ 0xC8 ∷ []) → F byte6 byte7 ≡ 16 → checkSDA es p t ≡ refuse 6 p
     sixteen-6 c e = else-6 (no-sixteen byte6 byte7 e (codeOf t) c) (sixteen-kept byte6 byte7 e (codeOf t))
 
--- A group of a GDA (Q-4) gives an SDA's field the size of its two bytes, and keeps all else of it;
-module _ (a b : ℕ) (f : Field) where
-  pub length-replaces : 0 < F a b → column a b f ≡ record { id = f .id; code = f .code; type = f .type; mode = f .mode; size = sizeOf (ruleOf (f .type) .sizes) a b }
+-- A group of a GDA (Q-4) adds the field of an SDA without extents, with the size of its two bytes;
+module _ (ref a b : ℕ) (f : Field) where
+  abbrev adds : List Field
+  adds = fieldsAdded GDA (record { ref = ref; byte1 = a; byte2 = b }) (some (U.array f []))
+
+  pub length-replaces : 0 < F a b → adds ≡ withSize (sizeOf (ruleOf (f .type) .sizes) a b) f ∷ []
   length-replaces h = rw (lt-ltb 0 (F a b) h)
 
   -- a length of zero keeps the field as it is;
-  pub zero-keeps : F a b ≡ 0 → column a b f ≡ f
+  pub zero-keeps : F a b ≡ 0 → adds ≡ f ∷ []
   zero-keeps e = rw e
 
 -- and a length that does not suit the type of an SDA without extents is refused with 21, with no default put in.
 pub misfit-21 : (p n ref a b code : ℕ) → 0 < F a b → (Suits code a b → ⊥)
-    → addGroup groupArray p n (record { ref = ref; byte1 = a; byte2 = b }) (some (array code [])) ≡ refuse 21 p
-unfolding addGroup countAdded goodLength
+    → addGroup GDA p n (record { ref = ref; byte1 = a; byte2 = b }) (some (array code [])) ≡ refuse 21 p
+unfolding addGroup countAdded goodColumn
 misfit-21 p n ref a b code h unsuited = rw (lt-ltb 0 (F a b) h) (go (suitsType (typeOf code) a b) refl)
   where
     go : (x : Bool) → suitsType (typeOf code) a b ≡ x → ((reject (not x) 21 p >> ok 1) >>= (λ k. reject (ltb maxItems (n + k)) 10 p >> ok (n + k))) ≡ refuse 21 p

@@ -13,7 +13,7 @@ use borrow.Author.Tests.{not-false}
 use lib.ListN.{length, drop, replicate, getElem?}
 use Rattle.fdoca.specs.Basics.{if_then_else_, elem, lookup, repeat, product, ok, _>>=_, _>>_, the}
 use Rattle.fdoca.specs.FieldType.{FieldType, fixedBytes, variableBytes, terminatedBytes, shortBytes, integer, reversedInteger, packedDecimal, hexFloat, reversedFloat, binaryFloat, Layout, fixed, counted, terminated, Size, bytes, digits, Sizes, upTo, oneOf, digitsUpTo, sizeOf, allows, replaces, typeOf, ruleOf, nullable}
-use Rattle.fdoca.specs.Triplet.{Triplet, torn, triplet, triplets, Construct, SDA, RLO, GDA, ISD, CPT, Kind, rowLayout, groupArray, constructOf, idOf, codeOf, parametersOf, extentsOf, Group, taken, factor, groupsOf}
+use Rattle.fdoca.specs.Triplet.{Triplet, torn, triplet, triplets, Kind, RLO, GDA, Construct, SDA, ISD, CPT, grouped, constructOf, idOf, codeOf, parametersOf, extentsOf, Group, taken, factor, groupsOf}
 use Rattle.fdoca.specs.Item.{Field, fieldLength, Measured, refused, item, indicated, measureFixed, measureValue, measureNullable, measureItem, measure}
 use Rattle.fdoca.specs.Walk.{Note, itemLength, noteOf, with, cutFrom, walk}
 use Rattle.fdoca.specs.Calls.{oversize, itemAt}
@@ -24,7 +24,7 @@ use Rattle.fdoca.proofs.Tests.{by-test, by-le, and-left, and-right}
 use Rattle.fdoca.specs.Reasons.{Allowed}
 use Rattle.fdoca.specs.Between.{entry, entries, rowCounted, state}
 use Rattle.fdoca.proofs.TypeRows.{good-parts, rule-allows}
-use Rattle.fdoca.proofs.Count.{entry?, lookup-entries, closed-state, check-triplet}
+use Rattle.fdoca.proofs.Count.{entry?, lookup-entries, Fitting, single, fitting, closed-state, check-triplet}
 
 pub record GoodField (f : Field) : Type 0 where
   pub typed : typeOf (f .code) ≡ some (f .type)
@@ -127,9 +127,9 @@ good-found i (c ∷ ds) (one-more g gs) = go (eqb i (c .0)) (good-found i ds gs)
     go true r = g
     go false r = r
 
--- A good field with a replaced length that is good for its type is good.
-pub good-replaced : (f : Field) (a b : ℕ) → GoodField f → C.goodLength (f .code) a b ≡ true → GoodField (column a b f)
-unfolding C.goodLength
+-- a good field with a replaced length that is good for its type is good
+good-replaced : (f : Field) (a b : ℕ) → GoodField f → C.goodColumn (f .code) a b ≡ true → GoodField (column a b f)
+unfolding C.goodColumn
 good-replaced f a b g h = record { typed = g .typed; allowed = go (replaces a b) h; mode-allowed = g .mode-allowed }
   where
     go : (x : Bool) → (if x then C.suitsType (typeOf (f .code)) a b else true) ≡ true
@@ -138,15 +138,13 @@ good-replaced f a b g h = record { typed = g .typed; allowed = go (replaces a b)
     go false k = g .allowed
 
 -- what a group that is not refused adds
-good-column : (x : Group) (D : Described) → Good D → not (C.fits x (entry D)) ≡ false → AllGood (columnReferred x (some D))
-good-column x (array f []) g h = cons (good-replaced f (x .byte1) (x .byte2) g (not-false (C.goodLength (f .code) (x .byte1) (x .byte2)) h)) nil
-good-column x (array f (y ∷ ys)) g h = nil
-good-column x (row l) g h = nil
+good-column : (x : Group) (D : Described) → Good D → Fitting x D → AllGood (columnReferred x (some D))
+good-column x (array f []) g (single h) = cons (good-replaced f (x .byte1) (x .byte2) g h) nil
 
 good-added : (kind : Kind) (p : ℕ) (x : Group) (D : Described) → Good D → IfOk (λ k. AllGood (fieldsAdded kind x (some D))) (C.countAdded kind p x (entry D))
 unfolding C.countAdded
-good-added rowLayout p x D g = always _ (good-repeat (factor x) _ (good-taken (taken x) D g))
-good-added groupArray p x D g = reject-all (not (C.fits x (entry D))) 21 p (λ h. holds (good-column x D g h))
+good-added RLO p x D g = always _ (good-repeat (factor x) _ (good-taken (taken x) D g))
+good-added GDA p x D g = reject-all (not (C.fits x (entry D))) 21 p (λ h. holds (good-column x D g (fitting x D h)))
 
 good-group : (kind : Kind) (p n : ℕ) (x : Group) (o : Option Described) → GoodFound o → IfOk (λ m. AllGood (fieldsAdded kind x o)) (C.addGroup kind p n x (entry? o))
 unfolding C.addGroup
@@ -211,8 +209,7 @@ good-construct : (c : Option Construct) (u : Layouts) (p : ℕ) (t : List ℕ) �
 unfolding C.checkConstruct unfoldConstruct
 good-construct none u p t g = none-owed
 good-construct (some SDA) u p t g = rw (closed-state u) (good-unfold-SDA u p t (typeOf (codeOf t)) refl g)
-good-construct (some RLO) u p t g = rw (closed-state u) (good-unfold-row rowLayout u p t g)
-good-construct (some GDA) u p t g = rw (closed-state u) (good-unfold-row groupArray u p t g)
+good-construct (some (grouped kind)) u p t g = rw (closed-state u) (good-unfold-row kind u p t g)
 good-construct (some ISD) u p t g = always _ g
 good-construct (some CPT) u p t g = good-unfold-CPT u p t (u .current) (g .at-hand) g
 

@@ -12,11 +12,11 @@ use lib.ListN.{drop}
 use borrow.Author.Tests.{ltb-true, ltb-false, eqb-true, eqb-false, lt-ltb}
 use Rattle.fdoca.specs.Basics.{if_then_else_, lookup, product, Result, ok, _>>=_, _>>_, reject, the}
 use Rattle.fdoca.specs.FieldType.{replaces, typeOf}
-use Rattle.fdoca.specs.Triplet.{Kind, rowLayout, groupArray, threes}
+use Rattle.fdoca.specs.Triplet.{Kind, RLO, GDA, threes}
 use Rattle.fdoca.specs.Check as C
-use Rattle.fdoca.specs.Check.{Entry, countOf, countTaken, suitsType, goodLength, fits, maxItems, countAdded, addGroup, addGroups}
+use Rattle.fdoca.specs.Check.{Entry, countOf, countTaken, suitsType, goodColumn, fits, maxItems, countAdded, addGroup, addGroups}
 use Rattle.fdoca.specs.Reasons as R
-use Rattle.fdoca.specs.Reasons.{place, LENGTH, byteOf, NotTorn, sda, rlo, gda, Is, HasGroups, InRow, reference, taken, factor, Refers, extent, Lower, Counts, single, array, row, Adds, kept, replaced, column, UpTo, group, missing, NotCarried, repetition-0, over-row, over-single, ColumnMisfit, no-SDA, has-extents, bad-length, OfTriplet, missing-reference, not-carried, column-misfit, too-many-up-to}
+use Rattle.fdoca.specs.Reasons.{place, LENGTH, byteOf, NotTorn, sda, rlo, gda, Is, HasGroups, InRow, reference, byte1, byte2, taken, factor, Refers, extent, Lower, Counts, single, array, row, Adds, kept, replaced, column, UpTo, group, missing, NotCarried, repetition-0, over-row, over-single, ColumnMisfit, no-SDA, has-extents, bad-length, OfTriplet, missing-reference, not-carried, column-misfit, too-many-up-to}
 use Rattle.fdoca.proofs.TripletBytes.{bytesOf, groupOf, groups-from, groups-end}
 use Rattle.fdoca.proofs.TripletTests.{Tells, clash, row-clash}
 use Rattle.fdoca.proofs.Counting.{Unique, up-in-row, one-row, up-to-same, lower-long}
@@ -36,8 +36,8 @@ entry-counts (of-row i c) = c
 
 -- The construct type of a kind.
 abbrev pub kindByte : Kind → ℕ
-kindByte rowLayout = rlo
-kindByte groupArray = gda
+kindByte RLO = rlo
+kindByte GDA = gda
 
 -- The entries es are those of the ids that the first b triplets describe.
 pub record Known (d : List ℕ) (b : ℕ) (es : List (ℕ × Entry)) : Type 0 where
@@ -81,24 +81,24 @@ module _ (d : List ℕ) (j : ℕ) (w : NotTorn d j) (r : ℕ) (in-row : InRow d 
     carried e n x h f (over-single i b g l v c z) = taken-of (taken d j k) e n l x h .1 (rw (← same i v) at z)
 
     -- IN A GDA the length is good for the type of an SDA without extents, or not
-    length-misfits : (b : Bool) (code : ℕ) → code ≡ byteOf d q 3 → Is d gda r → replaces (taken d j k) (factor d j k) ≡ b
-        → (if b then suitsType (typeOf code) (taken d j k) (factor d j k) else true) ≡ false → ColumnMisfit d j k
-    length-misfits true code c h e f =
-        bad-length in-row h inside refers (ltb-true 0 _ e) (λ s. true≢false (sym (suits-type (rw (← c) at s)) ∙ f))
-    length-misfits false code c h e f = absurd (true≢false f)
+    length-misfits : (b : Bool) (code : ℕ) → code ≡ byteOf d q 3 → Is d gda r → Is d sda q → replaces (byte1 d j k) (byte2 d j k) ≡ b
+        → (if b then suitsType (typeOf code) (byte1 d j k) (byte2 d j k) else true) ≡ false → ColumnMisfit d j k
+    length-misfits true code c h i e f =
+        bad-length in-row h inside refers i (ltb-true 0 _ e) (λ s. true≢false (sym (suits-type (rw (← c) at s)) ∙ f))
+    length-misfits false code c h i e f = absurd (true≢false f)
 
     misfits : (e : Entry) → Is d gda r → EntryAt d q e → fits (groupOf d j w k) e ≡ false → ColumnMisfit d j k
-    unfolding goodLength
-    misfits (C.array code []) h (of-single i l c) f = length-misfits (replaces (taken d j k) (factor d j k)) code c h refl f
-    misfits (C.array code (x ∷ xs)) h (of-array i l c) f = has-extents in-row h inside refers (lower-long l)
+    unfolding goodColumn
+    misfits (C.array code []) h (of-single i l c) f = length-misfits (replaces (byte1 d j k) (byte2 d j k)) code c h i refl f
+    misfits (C.array code (x ∷ xs)) h (of-array i l c) f = has-extents in-row h inside refers i (lower-long l)
     misfits (C.row n) h (of-row i c) f = no-SDA in-row h inside refers (λ x. row-clash i x (omega arith) (omega arith))
 
     fitting : (e : Entry) → EntryAt d q e → fits (groupOf d j w k) e ≡ true → ColumnMisfit d j k → ⊥
-    unfolding goodLength
+    unfolding goodColumn
     fitting (C.array code []) (of-single i l c) f (no-SDA a h g v n) = n (rw (same a v) at i)
-    fitting (C.array code []) (of-single i l c) f (has-extents a h g v n) = n (rw (same a v) at l)
-    fitting (C.array code []) (of-single i l c) f (bad-length a h g v p n) =
-        n (rw (← same a v, ← c) (type-suits code (taken d j k) (factor d j k) (rw (lt-ltb 0 _ p) at f)))
+    fitting (C.array code []) (of-single i l c) f (has-extents a h g v u n) = n (rw (same a v) at l)
+    fitting (C.array code []) (of-single i l c) f (bad-length a h g v u p n) =
+        n (rw (← same a v, ← c) (type-suits code (byte1 d j k) (byte2 d j k) (rw (lt-ltb 0 _ p) at f)))
     fitting (C.array code (x ∷ xs)) e f m = true≢false (sym f)
     fitting (C.row n) e f m = true≢false (sym f)
 
@@ -183,8 +183,8 @@ module _ (d : List ℕ) (j : ℕ) (w : NotTorn d j) (r : ℕ) (in-row : InRow d 
       by-fit false i h = refused refl (column-misfit (misfits k inside q refers x i entry h)) clear-9
 
       by-kind : (kind : Kind) → Is d (kindByte kind) r → Judged d j Q (addGroup kind (place d j) n (groupOf d j w k) (some x) >>= f)
-      by-kind rowLayout i = by-factor (eqb (factor d j k) 0) i refl
-      by-kind groupArray i = by-fit (fits (groupOf d j w k) x) i refl
+      by-kind RLO i = by-factor (eqb (factor d j k) 0) i refl
+      by-kind GDA i = by-fit (fits (groupOf d j w k) x) i refl
 
   -- The groups from number k on, m of them.
   pub judge-groups : (kind : Kind) → Is d (kindByte kind) r → (m k n : ℕ) → LENGTH d j ≡ 3 + 3 * (k + m) → UpTo d r j k n → Clear d j k 11

@@ -10,7 +10,7 @@ use lib.Dec.{ltb, eqb}
 use lib.ListN.{length}
 use borrow.Author.Tests.{ltb-false}
 use Rattle.fdoca.specs.Basics.{product, lookup, ok, _>>=_, _>>_}
-use Rattle.fdoca.specs.Triplet.{Triplet, torn, triplet, triplets, Construct, SDA, RLO, GDA, ISD, CPT, Kind, rowLayout, groupArray, constructOf, idOf, codeOf, extentsOf, Group, groupsOf}
+use Rattle.fdoca.specs.Triplet.{Triplet, torn, triplet, triplets, Kind, RLO, GDA, Construct, SDA, ISD, CPT, grouped, constructOf, idOf, codeOf, extentsOf, Group, groupsOf}
 use Rattle.fdoca.specs.Check.{Entry, array, State, closeRow, closed, countOf, isDescribed, maxItems, maxDescriptor, countAdded, addGroup, addGroups, goodLengthSDA, goodSDA, goodLengthRow, goodLengthISD, goodISD, checkSDA, checkRow, checkCPT, checkISD, checkConstruct, checkTriplet, checkTriplets, begin, lastCount, check}
 use Rattle.fdoca.proofs.Results.{IfOk, none-owed, holds, bind-all, reject-all, always, ok-of}
 
@@ -88,8 +88,7 @@ limited-construct : (c : Option Construct) (st : State) (p : ℕ) (t : List ℕ)
 unfolding checkConstruct
 limited-construct none st p t b = none-owed
 limited-construct (some SDA) st p t b = limited-SDA (closed st) p t (limited-closed st b)
-limited-construct (some RLO) st p t b = limited-row rowLayout (closed st) p t (limited-closed st b)
-limited-construct (some GDA) st p t b = limited-row groupArray (closed st) p t (limited-closed st b)
+limited-construct (some (grouped kind)) st p t b = limited-row kind (closed st) p t (limited-closed st b)
 limited-construct (some ISD) st p t b = limited-ISD st p t b
 limited-construct (some CPT) st p t b = limited-CPT st p t b
 

@@ -3,20 +3,20 @@
 use mathlib.Core.Path.{_≡_, refl, ap}
 use Prim.Native.Nat.{ℕ, zero, suc, _+_, _*_}
 use native.Mathlib.Omega.{arith}
-use mathlib.Core.Bool.{false, not, true≢false}
+use mathlib.Core.Bool.{not}
 use mathlib.Core.List.{List, [], _∷_, _++_}
 use mathlib.Core.Option.{Option, none, some}
 use lib.Dec.{ltb, eqb}
 use lib.ListN.{length, replicate}
 use Rattle.fdoca.specs.Basics.{lookup, repeat, product, ok}
 use Rattle.fdoca.specs.FieldType.{FieldType, typeOf}
-use Rattle.fdoca.specs.Triplet.{Triplet, torn, triplet, triplets, Construct, SDA, RLO, GDA, ISD, CPT, Kind, rowLayout, groupArray, constructOf, idOf, codeOf, extentsOf, Group, taken, factor, groupsOf}
+use Rattle.fdoca.specs.Triplet.{Triplet, torn, triplet, triplets, Kind, RLO, GDA, Construct, SDA, ISD, CPT, grouped, constructOf, idOf, codeOf, extentsOf, Group, taken, factor, groupsOf}
 use Rattle.fdoca.specs.Item.{Field}
 use Rattle.fdoca.specs.Check as C
 use Rattle.fdoca.specs.Unfolding.{Described, array, row, fieldsOf, fieldsTaken, column, fieldsAdded, Layouts, closed, groupFields, addFields, fieldOf, unfoldSDA, unfoldRow, unfoldCPT, unfoldConstruct, unfoldTriplet, unfoldTriplets, start, lastFields, unfolded}
 use Rattle.fdoca.specs.Between.{entry, entries, rowCounted, state}
 use Rattle.fdoca.proofs.Results.{IfOk, none-owed, holds, bind-all, the-all, reject-all, for-all, both-all, always, ok-of}
-use Rattle.fdoca.proofs.Count.{entry?, lookup-entries, closed-state, no-type-refused, check-triplet, check-triplets}
+use Rattle.fdoca.proofs.Count.{entry?, lookup-entries, Fitting, single, fitting, closed-state, no-type-refused, check-triplet, check-triplets}
 
 -- the list of an RLO's group, once
 pub data Takes : ℕ → Described → List Field → Type 0 where
@@ -25,8 +25,8 @@ pub data Takes : ℕ → Described → List Field → Type 0 where
 
 -- a group's list
 pub data Lists : Kind → Group → Described → List Field → Type 0 where
-  of-row : {g : Group} {D : Described} {m : List Field} → Takes (taken g) D m → Lists rowLayout g D (repeat (factor g) m)
-  of-column : {g : Group} {f : Field} → Lists groupArray g (array f []) (column (g .byte1) (g .byte2) f ∷ [])
+  of-row : {g : Group} {D : Described} {m : List Field} → Takes (taken g) D m → Lists RLO g D (repeat (factor g) m)
+  of-column : {g : Group} {f : Field} → Lists GDA g (array f []) (column (g .byte1) (g .byte2) f ∷ [])
 
 -- a list, with those of groups added to it
 pub data Adds (kind : Kind) (ds : List (ℕ × Described)) : List Field → List Group → List Field → Type 0 where
@@ -34,16 +34,11 @@ pub data Adds (kind : Kind) (ds : List (ℕ × Described)) : List Field → List
   one-more : {l m o : List Field} {g : Group} {gs : List Group} {D : Described} → lookup (g .ref) ds ≡ some D → Lists kind g D m → Adds kind ds (l ++ m) gs o
       → Adds kind ds l (g ∷ gs) o
 
--- the construct of a kind
-abbrev pub constructOfKind : Kind → Construct
-constructOfKind rowLayout = RLO
-constructOfKind groupArray = GDA
-
 -- a triplet, after what the triplets before it unfold to
 pub data Unfolds (u : Layouts) (t : List ℕ) : Layouts → Type 0 where
   of-SDA : {T : FieldType} → constructOf t ≡ some SDA → typeOf (codeOf t) ≡ some T
       → Unfolds u t (record { described = (idOf t, array (fieldOf T t) (extentsOf t)) ∷ closed u; current = none })
-  of-row : {kind : Kind} {l : List Field} → constructOf t ≡ some (constructOfKind kind) → Adds kind (closed u) [] (groupsOf t) l
+  of-row : {kind : Kind} {l : List Field} → constructOf t ≡ some (grouped kind) → Adds kind (closed u) [] (groupsOf t) l
       → Unfolds u t (record { described = closed u; current = some (idOf t, l, kind) })
   of-ISD : constructOf t ≡ some ISD → Unfolds u t u
   of-CPT : {r : ℕ × List Field × Kind} {l : List Field} → constructOf t ≡ some CPT → u .current ≡ some r → Adds (r .2) (u .described) (r .1) (groupsOf t) l
@@ -69,18 +64,16 @@ taken-as (suc k) (array f []) m e = absurd (let z : _≡_ {A = ℕ} 0 1 = cc in 
 taken-as (suc k) (array f (x ∷ xs)) m e = some-of
 taken-as (suc k) (row l) m e = absurd (let z : _≡_ {A = ℕ} 0 1 = cc in let w : ⊥ = omega arith in w)
 
-column-as : (g : Group) (D : Described) → not (C.fits g (entry D)) ≡ false → Lists groupArray g D (fieldsAdded groupArray g (some D))
-column-as g (array f []) h = of-column
-column-as g (array f (x ∷ xs)) h = absurd (true≢false h)
-column-as g (row l) h = absurd (true≢false h)
+column-as : (g : Group) (D : Described) → Fitting g D → Lists GDA g D (fieldsAdded GDA g (some D))
+column-as g (array f []) (single h) = of-column
 
 list-as : (kind : Kind) (p : ℕ) (g : Group) (D : Described) → IfOk (λ m. Lists kind g D (fieldsAdded kind g (some D))) (C.countAdded kind p g (entry D))
 unfolding C.countAdded
-list-as rowLayout p g D =
+list-as RLO p g D =
     reject-all (eqb (factor g) 0) 9 p
     (λ h. the-all (C.countTaken (taken g) (entry D)) 9 p
     (λ k t. holds (of-row (taken-as (taken g) D k t))))
-list-as groupArray p g D = reject-all (not (C.fits g (entry D))) 21 p (λ h. holds (column-as g D h))
+list-as GDA p g D = reject-all (not (C.fits g (entry D))) 21 p (λ h. holds (column-as g D (fitting g D h)))
 
 -- what a group refers to, and that it makes a list of it
 record Referred (kind : Kind) (ds : List (ℕ × Described)) (g : Group) : Type 0 where
@@ -129,7 +122,7 @@ CPT-as u p t (some r) c e =
     (λ h₁. bind-all (C.addGroups (r .2) p (entries (u .described)) (length (r .1)) (groupsOf t)) (groups-as (r .2) p (length (r .1)) (u .described) (r .1) (groupsOf t))
     (λ n a. holds (of-CPT c e a))))
 
-row-as : (kind : Kind) (u : Layouts) (p : ℕ) (t : List ℕ) → constructOf t ≡ some (constructOfKind kind)
+row-as : (kind : Kind) (u : Layouts) (p : ℕ) (t : List ℕ) → constructOf t ≡ some (grouped kind)
     → IfOk (λ st. Unfolds u t (unfoldRow kind u t)) (C.checkRow kind (entries (closed u)) p t)
 unfolding C.checkRow unfoldRow
 row-as kind u p t c =
@@ -143,8 +136,7 @@ construct-as : (o : Option Construct) (u : Layouts) (p : ℕ) (t : List ℕ) →
 unfolding C.checkConstruct C.checkISD unfoldConstruct
 construct-as none u p t c = none-owed
 construct-as (some SDA) u p t c = rw (closed-state u) (SDA-as u p t (typeOf (codeOf t)) c refl)
-construct-as (some RLO) u p t c = rw (closed-state u) (row-as rowLayout u p t c)
-construct-as (some GDA) u p t c = rw (closed-state u) (row-as groupArray u p t c)
+construct-as (some (grouped kind)) u p t c = rw (closed-state u) (row-as kind u p t c)
 construct-as (some ISD) u p t c = always _ (of-ISD c)
 construct-as (some CPT) u p t c = CPT-as u p t (u .current) c refl
 

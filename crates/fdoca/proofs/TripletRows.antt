@@ -122,13 +122,13 @@ module _ {d : List ℕ} {j : ℕ} where
 
   pub array-head : {r k : ℕ} → InRow d r j → ColumnMisfit d j k → Is d gda r
   array-head v (no-SDA i h g f n) = rw (one-row v i) h
-  array-head v (has-extents i h g f n) = rw (one-row v i) h
-  array-head v (ColumnMisfit.bad-length i h g f l n) = rw (one-row v i) h
+  array-head v (has-extents i h g f u n) = rw (one-row v i) h
+  array-head v (ColumnMisfit.bad-length i h g f u l n) = rw (one-row v i) h
 
   not-both : {k : ℕ} → NotCarried d j k → ColumnMisfit d j k → ⊥
   not-both x (no-SDA i h g f n) = clash (row-head i x) h (omega arith)
-  not-both x (has-extents i h g f n) = clash (row-head i x) h (omega arith)
-  not-both x (ColumnMisfit.bad-length i h g f l n) = clash (row-head i x) h (omega arith)
+  not-both x (has-extents i h g f u n) = clash (row-head i x) h (omega arith)
+  not-both x (ColumnMisfit.bad-length i h g f u l n) = clash (row-head i x) h (omega arith)
 
   -- a group with a reason lies within triplet j, which belongs to a row
   pub group-of : {k s m : ℕ} → OfTriplet d j (suc k) s m → (6 + 3 * k ≤ LENGTH d j) × (HasGroups d j ⊎ Is d cpt j)
@@ -137,8 +137,8 @@ module _ {d : List ℕ} {j : ℕ} where
   group-of (not-carried (over-row i h g l f q)) = (g, in-row-kind i)
   group-of (not-carried (over-single i h g l f q e)) = (g, in-row-kind i)
   group-of (column-misfit (no-SDA i h g f n)) = (g, in-row-kind i)
-  group-of (column-misfit (has-extents i h g f n)) = (g, in-row-kind i)
-  group-of (column-misfit (ColumnMisfit.bad-length i h g f l n)) = (g, in-row-kind i)
+  group-of (column-misfit (has-extents i h g f u n)) = (g, in-row-kind i)
+  group-of (column-misfit (ColumnMisfit.bad-length i h g f u l n)) = (g, in-row-kind i)
   group-of (too-many-up-to (of-row u l)) = up-to-group u
     where
       up-to-group : {r k n : ℕ} → UpTo d r j (suc k) n → (6 + 3 * k ≤ LENGTH d j) × (HasGroups d j ⊎ Is d cpt j)

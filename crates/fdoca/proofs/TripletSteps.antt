@@ -12,7 +12,7 @@ use mathlib.Core.Option.{Option, none, some}
 use lib.Dec.{ltb, eqb}
 use borrow.Author.Tests.{ltb-true, ltb-false, eqb-true, eqb-false, not-true, not-false}
 use Rattle.fdoca.specs.Basics.{if_then_else_, lookup, isSome, product, Result, ok, _>>=_}
-use Rattle.fdoca.specs.Triplet.{Construct, constructs, Kind, rowLayout, groupArray, constructOf, idOf, codeOf, extentsOf, groupsOf}
+use Rattle.fdoca.specs.Triplet.{Construct, constructs, Kind, RLO, GDA, constructOf, idOf, codeOf, extentsOf, groupsOf}
 use Rattle.fdoca.specs.Triplet as T
 use Rattle.fdoca.specs.Check as C
 use Rattle.fdoca.specs.Check.{Entry, State, closed, closeRow, isDescribed, goodLengthSDA, goodSDA, goodLengthRow, goodLengthISD, goodISD, maxItems, addGroups, checkSDA, checkRow, checkCPT, checkISD, checkConstruct, checkTriplet}
@@ -100,33 +100,32 @@ place-later (suc i) h f = omega (arith, f i (omega arith) .long)
 -- the construct types that are carried
 abbrev typeByte : Construct → ℕ
 typeByte T.SDA = sda
-typeByte T.RLO = rlo
-typeByte T.GDA = gda
 typeByte T.ISD = isd
 typeByte T.CPT = cpt
+typeByte (T.grouped kind) = kindByte kind
 
 construct-type : (n : ℕ) (x : Construct) → lookup n constructs ≡ some x → n ≡ typeByte x
 construct-type n x h = eqb-true n (typeByte x) (looked-up (λ n x. eqb n (typeByte x)) n constructs x refl h)
 
 known-type : {n : ℕ} → OneOf n (sda ∷ rlo ∷ gda ∷ isd ∷ cpt ∷ []) → (x : Construct) × (lookup n constructs ≡ some x)
 known-type (here e) = (T.SDA, rw e)
-known-type (there (here e)) = (T.RLO, rw e)
-known-type (there (there (here e))) = (T.GDA, rw e)
+known-type (there (here e)) = (T.grouped T.RLO, rw e)
+known-type (there (there (here e))) = (T.grouped T.GDA, rw e)
 known-type (there (there (there (here e)))) = (T.ISD, rw e)
 known-type (there (there (there (there (here e))))) = (T.CPT, rw e)
 
 -- a triplet of a kind has groups, and its type is one of those that a CPT may follow
 headed : {d : List ℕ} {j : ℕ} (kind : Kind) → Is d (kindByte kind) j → HasGroups d j
-headed rowLayout i = inl i
-headed groupArray i = inr i
+headed RLO i = inl i
+headed GDA i = inr i
 
 kind-type : {d : List ℕ} {j : ℕ} (kind : Kind) → Is d (kindByte kind) j → OneOf (byteOf d j 1) (rlo ∷ gda ∷ cpt ∷ [])
-kind-type rowLayout i = here (i .type)
-kind-type groupArray i = there (here (i .type))
+kind-type RLO i = here (i .type)
+kind-type GDA i = there (here (i .type))
 
 kind-carried : {d : List ℕ} {j : ℕ} (kind : Kind) → Is d (kindByte kind) j → OneOf (byteOf d j 1) (sda ∷ rlo ∷ gda ∷ isd ∷ cpt ∷ [])
-kind-carried rowLayout i = there (here (i .type))
-kind-carried groupArray i = there (there (here (i .type)))
+kind-carried RLO i = there (here (i .type))
+kind-carried GDA i = there (there (here (i .type)))
 
 -- and no other triplet has
 not-followed : {d : List ℕ} {c j : ℕ} → Is d c j → c ≢ rlo → c ≢ gda → c ≢ cpt → OneOf (byteOf d j 1) (rlo ∷ gda ∷ cpt ∷ []) → ⊥
@@ -404,8 +403,7 @@ module _ (d : List ℕ) (j : ℕ) (there-is : There d j) (w : NotTorn d j) where
     unfolding checkConstruct
     judge-construct none e = refused refl (unknown-construct (record { not-carried = not-one e })) (whole-clear w)
     judge-construct (some T.SDA) e = judge-SDA (is-of e)
-    judge-construct (some T.RLO) e = judge-row rowLayout (is-of e)
-    judge-construct (some T.GDA) e = judge-row groupArray (is-of e)
+    judge-construct (some (T.grouped kind)) e = judge-row kind (is-of e)
     judge-construct (some T.ISD) e = judge-ISD (is-of e)
     judge-construct (some T.CPT) e = judge-CPT (is-of e)
 

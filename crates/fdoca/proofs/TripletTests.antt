@@ -14,7 +14,7 @@ use Rattle.fdoca.specs.Basics.{elem}
 use Rattle.fdoca.specs.FieldType.{FieldType, typeOf, ruleOf}
 use Rattle.fdoca.specs.Triplet.{idOf, codeOf, parametersOf, extentsOf, subsetOf, versionOf}
 use Rattle.fdoca.specs.Check.{goodType, goodLengthSDA, goodSDA, goodLengthRow, goodLengthISD, goodISD}
-use Rattle.fdoca.specs.Reasons.{OneOf, here, there, LENGTH, byteOf, NotTorn, sda, rlo, gda, isd, cpt, Is, HasGroups, Describes, extent, GoodParameters, Form, SDA, RLO, GDA, CPT, ISD, BadLength, BadParameter, own-id-0, parameters, extent-0, reserved, ISD-id, subset, version}
+use Rattle.fdoca.specs.Reasons.{OneOf, here, there, LENGTH, byteOf, NotTorn, sda, rlo, gda, isd, cpt, Is, HasGroups, Describes, extent, GoodParameters, Form, SDA, with-groups, ISD, BadLength, BadParameter, own-id-0, parameters, extent-0, reserved, ISD-id, subset, version}
 use Rattle.fdoca.proofs.Tests.{and-left, and-right}
 use Rattle.fdoca.proofs.TripletBytes.{bytesOf, length-bytes, byte-bytes, byte-parameters, bias-bytes, mode-bytes, extents-from, extents-end, subset-bytes, version-bytes, version-left-off}
 use Rattle.fdoca.proofs.TypeRows.{elem-in, elem-out, good-parts, parts-good, rule-holds, table-holds, type-of-code}
@@ -68,35 +68,28 @@ module _ {d : List ℕ} {j : ℕ} where
   has-extent (three-there e) (suc (suc (suc k))) h = absurd (let z : ⊥ = omega arith in z)
 
 -- the forms of LENGTH, by construct
+no-groups : {c : ℕ} {A : Type 0} → OneOf c (rlo ∷ gda ∷ cpt ∷ []) → c ≢ rlo → c ≢ gda → c ≢ cpt → A
+no-groups (here e) a b h = absurd (a e)
+no-groups (there (here e)) a b h = absurd (b e)
+no-groups (there (there (here e))) a b h = absurd (h e)
+
 SDA-form : {c n : ℕ} → Form c n → c ≡ sda → OneOf n (12 ∷ 14 ∷ 16 ∷ 18 ∷ [])
 SDA-form (SDA o) e = o
-SDA-form (RLO k) e = absurd (let z : ⊥ = omega arith in z)
-SDA-form (GDA k) e = absurd (let z : ⊥ = omega arith in z)
-SDA-form (CPT k) e = absurd (let z : ⊥ = omega arith in z)
+SDA-form (with-groups k o) e = no-groups o (omega arith) (omega arith) (omega arith)
 SDA-form (ISD o) e = absurd (let z : ⊥ = omega arith in z)
 
 ISD-form : {c n : ℕ} → Form c n → c ≡ isd → OneOf n (5 ∷ 6 ∷ [])
 ISD-form (SDA o) e = absurd (let z : ⊥ = omega arith in z)
-ISD-form (RLO k) e = absurd (let z : ⊥ = omega arith in z)
-ISD-form (GDA k) e = absurd (let z : ⊥ = omega arith in z)
-ISD-form (CPT k) e = absurd (let z : ⊥ = omega arith in z)
+ISD-form (with-groups k o) e = no-groups o (omega arith) (omega arith) (omega arith)
 ISD-form (ISD o) e = o
 
 row-form-of : {c n : ℕ} → Form c n → OneOf c (rlo ∷ gda ∷ cpt ∷ []) → (k : ℕ) × (n ≡ 6 + 3 * k)
-row-form-of (SDA o) (here e) = absurd (let z : ⊥ = omega arith in z)
-row-form-of (SDA o) (there (here e)) = absurd (let z : ⊥ = omega arith in z)
-row-form-of (SDA o) (there (there (here e))) = absurd (let z : ⊥ = omega arith in z)
-row-form-of (RLO k) o = (k, refl)
-row-form-of (GDA k) o = (k, refl)
-row-form-of (CPT k) o = (k, refl)
-row-form-of (ISD o) (here e) = absurd (let z : ⊥ = omega arith in z)
-row-form-of (ISD o) (there (here e)) = absurd (let z : ⊥ = omega arith in z)
-row-form-of (ISD o) (there (there (here e))) = absurd (let z : ⊥ = omega arith in z)
+row-form-of (SDA o) r = no-groups r (omega arith) (omega arith) (omega arith)
+row-form-of (with-groups k o) r = (k, refl)
+row-form-of (ISD o) r = no-groups r (omega arith) (omega arith) (omega arith)
 
 row-has-form : {c n : ℕ} → OneOf c (rlo ∷ gda ∷ cpt ∷ []) → (k : ℕ) × (n ≡ 6 + 3 * k) → Form c n
-row-has-form (here e) k = rw (e, k .1) (RLO (k .0))
-row-has-form (there (here e)) k = rw (e, k .1) (GDA (k .0))
-row-has-form (there (there (here e))) k = rw (e, k .1) (CPT (k .0))
+row-has-form o k = rw (k .1) (with-groups (k .0) o)
 
 module _ (d : List ℕ) (j : ℕ) (w : NotTorn d j) where
   pub extents-are : OneOf (LENGTH d j) (12 ∷ 14 ∷ 16 ∷ 18 ∷ []) → Extents d j (extentsOf (bytesOf d j))

@@ -7,7 +7,7 @@ use lib.Dec.{leb, ltb, eqb}
 use lib.ListN.{length, getD}
 use Rattle.fdoca.specs.Basics.{if_then_else_, elem, lookup, isSome, product, Result, refuse, ok, _>>=_, _>>_, reject, the}
 use Rattle.fdoca.specs.FieldType.{FieldType, Rule, allows, replaces, suits, typeOf, ruleOf}
-use Rattle.fdoca.specs.Triplet.{Triplet, torn, triplet, triplets, Construct, SDA, RLO, GDA, ISD, CPT, Kind, rowLayout, groupArray, constructOf, idOf, codeOf, parametersOf, modeOf, sizeIn, biasOf, extentsOf, Group, taken, factor, groupsOf, subsetOf, versionOf}
+use Rattle.fdoca.specs.Triplet.{Triplet, torn, triplet, triplets, Kind, RLO, GDA, Construct, SDA, ISD, CPT, grouped, constructOf, idOf, codeOf, parametersOf, modeOf, sizeIn, biasOf, extentsOf, Group, taken, factor, groupsOf, subsetOf, versionOf}
 
 abbrev pub maxDescriptor : ℕ
 maxDescriptor = 4096
@@ -33,17 +33,18 @@ countTaken (suc k) (array code []) = none
 countTaken (suc k) (array code (x ∷ xs)) = some (suc k * product xs)
 countTaken (suc k) (row n) = none
 
--- A length suits the type that a code stands for, or replaces nothing.
+-- Q-4: a length suits the type that a code stands for.
 abbrev pub suitsType : Option FieldType → (byte6 byte7 : ℕ) → Bool
 suitsType none byte6 byte7 = false
 suitsType (some T) byte6 byte7 = suits (ruleOf T) byte6 byte7
 
-unfoldable pub goodLength : (code byte6 byte7 : ℕ) → Bool
-goodLength code byte6 byte7 = if replaces byte6 byte7 then suitsType (typeOf code) byte6 byte7 else true
+-- A length that replaces nothing is good, another one where it suits.
+unfoldable pub goodColumn : (code byte6 byte7 : ℕ) → Bool
+goodColumn code byte6 byte7 = if replaces byte6 byte7 then suitsType (typeOf code) byte6 byte7 else true
 
--- A group of a GDA refers to an SDA without extents, and its length is good for that SDA's type (Q-4).
+-- A group of a GDA refers to an SDA without extents, and its length is good for that SDA's type.
 abbrev pub fits : Group → Entry → Bool
-fits g (array code []) = goodLength code (g .byte1) (g .byte2)
+fits g (array code []) = goodColumn code (g .byte1) (g .byte2)
 fits g (array code (x ∷ xs)) = false
 fits g (row n) = false
 
@@ -66,11 +67,11 @@ isDescribed i es = isSome (lookup i es)
 -- How many items a group adds, at its triplet's place p, with the entry that it refers to: in an RLO as many as it takes, repeated by the factor; in
 -- a GDA one.
 unfoldable pub countAdded : Kind → (p : ℕ) → Group → Entry → Result ℕ
-countAdded rowLayout p g e = do
+countAdded RLO p g e = do
   reject (eqb (factor g) 0) 9 p
   k ← the (countTaken (taken g) e) 9 p
   ok (factor g * k)
-countAdded groupArray p g e = do
+countAdded GDA p g e = do
   reject (not (fits g e)) 21 p
   ok 1
 
@@ -158,8 +159,7 @@ checkISD st p t = do
 unfoldable pub checkConstruct : Option Construct → State → (p : ℕ) → List ℕ → Result State
 checkConstruct none st p t = refuse 3 p
 checkConstruct (some SDA) st p t = checkSDA (closed st) p t
-checkConstruct (some RLO) st p t = checkRow rowLayout (closed st) p t
-checkConstruct (some GDA) st p t = checkRow groupArray (closed st) p t
+checkConstruct (some (grouped kind)) st p t = checkRow kind (closed st) p t
 checkConstruct (some ISD) st p t = checkISD st p t
 checkConstruct (some CPT) st p t = checkCPT st p t
 

@@ -15,6 +15,10 @@ pub record Field : Type 0 where
   pub mode : ℕ
   pub size : Size
 
+-- A field with another size.
+abbrev pub withSize : Size → Field → Field
+withSize z f = record { id = f .id; code = f .code; type = f .type; mode = f .mode; size = z }
+
 -- The field's length in bytes: the F by which its items are measured.
 abbrev pub fieldLength : Field → ℕ
 fieldLength f = inBytes (f .size)

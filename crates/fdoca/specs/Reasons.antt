@@ -1,7 +1,7 @@
--- Document 01's table "Numbers a caller can meet", with 6 as Q-2 leaves it, 20 by Q-1, and group triplets and 21 by Q-4, row by row: for each number its column "When", said of a triplet, a group, an
--- item or a call by itself, with its place and without regard to the other rows; then 01's order. Bytes are read at their places. The unfolding, a
--- field's length in bytes, the split of bytes into halves and the standard's account of an item are taken from their own files; nothing is taken from the
--- check, from measuring, or from the calls.
+-- Document 01's table "Numbers a caller can meet", with 6 as Q-2 leaves it, 20 by Q-1, and group triplets and 21 by Q-4, row by row: for each number
+-- its column "When", said of a triplet, a group, an item or a call by itself, with its place and without regard to the other rows; then 01's order.
+-- Bytes are read at their places. The unfolding, a field's length in bytes, the split of bytes into halves and the standard's account of an item are
+-- taken from their own files; nothing is taken from the check, from measuring, or from the calls.
 use mathlib.Core.Path.{_≡_}
 use mathlib.Core.Logic.{_≢_, _⊎_}
 use Prim.Native.Nat.{ℕ, zero, suc, _+_, _*_, _≤_, _<_}
@@ -90,12 +90,18 @@ HasGroup d j k = 6 + 3 * k ≤ LENGTH d j
 abbrev pub reference : List ℕ → (j k : ℕ) → ℕ
 reference d j k = byteOf d j (3 + 3 * k)
 
--- Of a group of an RLO; of a GDA these two are the bytes of a field length.
+-- The two bytes behind the id: of a GDA's group a field length, of an RLO's the elements taken and the repetition factor.
+abbrev pub byte1 : List ℕ → (j k : ℕ) → ℕ
+byte1 d j k = byteOf d j (4 + 3 * k)
+
+abbrev pub byte2 : List ℕ → (j k : ℕ) → ℕ
+byte2 d j k = byteOf d j (5 + 3 * k)
+
 abbrev pub taken : List ℕ → (j k : ℕ) → ℕ
-taken d j k = byteOf d j (4 + 3 * k)
+taken d j k = byte1 d j k
 
 abbrev pub factor : List ℕ → (j k : ℕ) → ℕ
-factor d j k = byteOf d j (5 + 3 * k)
+factor d j k = byte2 d j k
 
 -- The row of r refers to triplet q by an id. An RLO or GDA counts as described after its last CPT, so q stands before it.
 pub record Refers (d : List ℕ) (r id q : ℕ) : Type 0 where
@@ -194,9 +200,7 @@ pub data OutOfSequence (d : List ℕ) (j : ℕ) : Type 0 where
 -- 5, Bad length: LENGTH against the forms, which are 12 plus at most three extents; 3 plus a positive multiple of 3; 5 or 6.
 pub data Form : (construct size : ℕ) → Type 0 where
   SDA : {n : ℕ} → OneOf n (12 ∷ 14 ∷ 16 ∷ 18 ∷ []) → Form sda n
-  RLO : (k : ℕ) → Form rlo (6 + 3 * k)
-  GDA : (k : ℕ) → Form gda (6 + 3 * k)
-  CPT : (k : ℕ) → Form cpt (6 + 3 * k)
+  with-groups : {c : ℕ} (k : ℕ) → OneOf c (rlo ∷ gda ∷ cpt ∷ []) → Form c (6 + 3 * k)
   ISD : {n : ℕ} → OneOf n (5 ∷ 6 ∷ []) → Form isd n
 
 pub record BadLength (d : List ℕ) (j : ℕ) : Type 0 where
@@ -232,10 +236,10 @@ pub data NotCarried (d : List ℕ) (j k : ℕ) : Type 0 where
 -- 4.3.1.4).
 pub data ColumnMisfit (d : List ℕ) (j k : ℕ) : Type 0 where
   no-SDA : {r q : ℕ} → InRow d r j → Is d gda r → HasGroup d j k → Refers d r (reference d j k) q → (Is d sda q → ⊥) → ColumnMisfit d j k
-  has-extents : {r q : ℕ} → InRow d r j → Is d gda r → HasGroup d j k → Refers d r (reference d j k) q → LENGTH d q ≢ 12 → ColumnMisfit d j k
-  bad-length : {r q : ℕ} → InRow d r j → Is d gda r → HasGroup d j k → Refers d r (reference d j k) q
-      → 0 < F (byteOf d j (4 + 3 * k)) (byteOf d j (5 + 3 * k))
-      → (Suits (byteOf d q 3) (byteOf d j (4 + 3 * k)) (byteOf d j (5 + 3 * k)) → ⊥) → ColumnMisfit d j k
+  has-extents : {r q : ℕ} → InRow d r j → Is d gda r → HasGroup d j k → Refers d r (reference d j k) q → Is d sda q → LENGTH d q ≢ 12
+      → ColumnMisfit d j k
+  bad-length : {r q : ℕ} → InRow d r j → Is d gda r → HasGroup d j k → Refers d r (reference d j k) q → Is d sda q → 0 < F (byte1 d j k) (byte2 d j k)
+      → (Suits (byteOf d q 3) (byte1 d j k) (byte2 d j k) → ⊥) → ColumnMisfit d j k
 
 -- 10, Too many items: the SDA's count, or the RLO's or GDA's count up to this group, over 4,096.
 pub data TooManyItems (d : List ℕ) (j : ℕ) : Type 0 where

@@ -24,16 +24,17 @@ tripletsFrom (suc fuel) p (n ∷ s) =
 abbrev pub triplets : List ℕ → List Triplet
 triplets d = tripletsFrom (length d) 0 d
 
--- The construct types that are carried. GDA, the Group Data Array, is Q-4's group triplet.
+-- The kinds of triplets with groups, which a CPT may continue: RLO, and GDA, the Group Data Array, which is Q-4's group triplet.
+pub data Kind : Type 0 where
+  RLO GDA : Kind
+
+-- The construct types that are carried.
 pub data Construct : Type 0 where
-  SDA RLO GDA ISD CPT : Construct
+  SDA ISD CPT : Construct
+  grouped : Kind → Construct
 
 abbrev pub constructs : List (ℕ × Construct)
-constructs = (0x70, SDA) ∷ (0x71, RLO) ∷ (0x75, GDA) ∷ (0x7E, ISD) ∷ (0x7F, CPT) ∷ []
-
--- The kinds of triplets with groups, which a CPT may continue: RLO and GDA.
-pub data Kind : Type 0 where
-  rowLayout groupArray : Kind
+constructs = (0x70, SDA) ∷ (0x71, grouped RLO) ∷ (0x75, grouped GDA) ∷ (0x7E, ISD) ∷ (0x7F, CPT) ∷ []
 
 -- The parts of a triplet's bytes.
 abbrev pub constructOf : List ℕ → Option Construct

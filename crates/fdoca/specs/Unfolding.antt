@@ -6,8 +6,8 @@ use mathlib.Core.Option.{Option, none, some}
 use lib.ListN.{replicate}
 use Rattle.fdoca.specs.Basics.{lookup, product, repeat}
 use Rattle.fdoca.specs.FieldType.{FieldType, typeOf, ruleOf, sizeReplaced}
-use Rattle.fdoca.specs.Triplet.{Triplet, torn, triplet, triplets, Construct, SDA, RLO, GDA, ISD, CPT, Kind, rowLayout, groupArray, constructOf, idOf, codeOf, parametersOf, modeOf, sizeIn, extentsOf, Group, taken, factor, groupsOf}
-use Rattle.fdoca.specs.Item.{Field}
+use Rattle.fdoca.specs.Triplet.{Triplet, torn, triplet, triplets, Kind, RLO, GDA, Construct, SDA, ISD, CPT, grouped, constructOf, idOf, codeOf, parametersOf, modeOf, sizeIn, extentsOf, Group, taken, factor, groupsOf}
+use Rattle.fdoca.specs.Item.{Field, withSize}
 
 -- What an id describes: an SDA's field and its extents, or the list of an RLO or a GDA.
 pub data Described : Type 0 where
@@ -45,9 +45,9 @@ fieldsReferred k (some d) = fieldsTaken k d
 
 -- An SDA's field, with the size that holds where a group of a GDA gives the length.
 abbrev pub column : (byte6 byte7 : ℕ) → Field → Field
-column byte6 byte7 f =
-    record { id = f .id; code = f .code; type = f .type; mode = f .mode; size = sizeReplaced (ruleOf (f .type)) (f .size) byte6 byte7 }
+column byte6 byte7 f = withSize (sizeReplaced (ruleOf (f .type)) (f .size) byte6 byte7) f
 
+-- What a group of a GDA adds: the one field of an SDA without extents.
 abbrev pub columnReferred : Group → Option Described → List Field
 columnReferred g (some (array f [])) = column (g .byte1) (g .byte2) f ∷ []
 columnReferred g (some (array f (x ∷ xs))) = []  -- *
@@ -56,8 +56,8 @@ columnReferred g none = []  -- *
 
 -- A group's list: in an RLO that of the triplet referred to, as often as the factor; in a GDA one field.
 abbrev pub fieldsAdded : Kind → Group → Option Described → List Field
-fieldsAdded rowLayout g D = repeat (factor g) (fieldsReferred (taken g) D)
-fieldsAdded groupArray g D = columnReferred g D
+fieldsAdded RLO g D = repeat (factor g) (fieldsReferred (taken g) D)
+fieldsAdded GDA g D = columnReferred g D
 
 abbrev pub groupFields : Kind → List (ℕ × Described) → Group → List Field
 groupFields kind ds g = fieldsAdded kind g (lookup (g .ref) ds)
@@ -87,8 +87,7 @@ unfoldCPT (some r) st t =
 unfoldable pub unfoldConstruct : Option Construct → Layouts → List ℕ → Layouts
 unfoldConstruct none st t = st  -- *
 unfoldConstruct (some SDA) st t = unfoldSDA (typeOf (codeOf t)) st t
-unfoldConstruct (some RLO) st t = unfoldRow rowLayout st t
-unfoldConstruct (some GDA) st t = unfoldRow groupArray st t
+unfoldConstruct (some (grouped kind)) st t = unfoldRow kind st t
 unfoldConstruct (some ISD) st t = st
 unfoldConstruct (some CPT) st t = unfoldCPT (st .current) st t
 

@@ -13,7 +13,7 @@ use Rattle.fdoca.specs.Basics.{if_then_else_, elem, big}
 use Rattle.fdoca.specs.FieldType.{FieldType, fixedBytes, variableBytes, terminatedBytes, shortBytes, integer, reversedInteger, packedDecimal, hexFloat, reversedFloat, binaryFloat, typeOf, Layout, Size, bytes, Sizes, upTo, oneOf, digitsUpTo, sizeOf, allows, ruleOf, lengthThatHolds, sizeThatHolds, suits}
 use Rattle.fdoca.specs.FieldType as definition
 use Rattle.fdoca.specs.Triplet.{biasOf, modeOf, sizeIn}
-use Rattle.fdoca.specs.Check.{most, goodParameters, goodType, suitsType, goodLength}
+use Rattle.fdoca.specs.Check.{most, goodParameters, goodType, suitsType, goodColumn}
 use Rattle.fdoca.proofs.Tests.{by-test, by-lt}
 use Rattle.field_types.specs.declared.Rule.{Rule}
 use Rattle.field_types.specs.declared.Shape.{Shape}
@@ -253,12 +253,12 @@ suits-type none a b = refl
 suits-type (some T) a b = refl
 
 module _ (code p q a b : ℕ) (ea : a ≡ p) (eb : b ≡ q) where
-  pub replaces-nothing : a * 256 + b ≡ 0 → true ≡ goodLength code p q
-  unfolding goodLength
+  pub replaces-nothing : a * 256 + b ≡ 0 → true ≡ goodColumn code p q
+  unfolding goodColumn
   replaces-nothing e = rw (← ea, ← eb, le-ltb 0 (a * 256 + b) (omega arith))
 
-  pub length-judged : (r : Rule) (g : Bool) → r ≡ encoded (typeOf code) → a < 256 → b < 256 → (a * 256 + b ≡ 0 → ⊥) → g ≡ sizeAllowed r (a * 256 + b) → g ≡ goodLength code p q
-  unfolding encoded goodLength
+  pub length-judged : (r : Rule) (g : Bool) → r ≡ encoded (typeOf code) → a < 256 → b < 256 → (a * 256 + b ≡ 0 → ⊥) → g ≡ sizeAllowed r (a * 256 + b) → g ≡ goodColumn code p q
+  unfolding encoded goodColumn
   length-judged r g e high low above k =
       let R : definition.Rule = ruleFor (typeOf code) in
       let x : (a * 256 + b) / 256 ≡ a = omega arith in

@@ -1,8 +1,9 @@
-// Field types (document 01, "Field types"; document 02, Q-1 to Q-4): the plain code of a type code, the rule that it finds, the size that holds for an SDA's type parameters, and their test; and the test of a length that replaces theirs.
+// Field types (document 01, "Field types"; document 02, Q-1 to Q-4): the plain code of a type code, the rule that it finds, the size that holds
+// for an SDA's type parameters, and their test; and the test of a length that replaces theirs.
 ghost use mathlib.Core.Path.{_≡_};
 ghost use lib.ListN.{length};
 ghost use Rattle.fdoca.specs.FieldType.{plain, typeOf};
-ghost use Rattle.fdoca.specs.Check.{goodLength};
+ghost use Rattle.fdoca.specs.Check.{goodColumn};
 ghost use Rattle.field_types.specs.Rows.{encoded, ruleAt};
 ghost use Rattle.field_types.specs.Parameters.{unusedZero, sizeHeld, lengthAllowed, digitsAllowed, sizeAllowed, ruleAllows, goodEight, inDigits, noShape, shapeIf};
 use numbers::pair;
@@ -303,9 +304,9 @@ fn size_allowed(rule: Rule, size: usize) -> bool
     digits_allowed(rule.digits, size / 256, size % 256)
 }
 
-// Whether a length that a group triplet gives, in two bytes, suits the type of a code as it is given; one of zero replaces nothing.
+// Whether a length that a group triplet gives, in two bytes, suits the type of a code as it is given; one of zero replaces nothing, and is good.
 pub fn good_length(code: u8, a: u8, b: u8) -> bool
-    ensures { λ r. ⌜ r ≡ goodLength code a b ⌝ }
+    ensures { λ r. ⌜ r ≡ goodColumn code a b ⌝ }
 {
     let length = wide(a) * 256 + wide(b);
     if length == 0 {

@@ -9,8 +9,8 @@ use borrow.Author.Tests.{lt-ltb, le-ltb, eqb-true, eqb-false}
 use lib.Dec.{eqb}
 use Rattle.fdoca.specs.Basics.{if_then_else_}
 use Rattle.fdoca.specs.FieldType.{typeOf, Size, Sizes, upTo, oneOf, digitsUpTo, sizeOf, replaces, ruleOf}
-use Rattle.fdoca.specs.Item.{Field}
-use Rattle.fdoca.specs.Check.{suitsType, goodLength}
+use Rattle.fdoca.specs.Item.{Field, withSize}
+use Rattle.fdoca.specs.Check.{suitsType, goodColumn}
 use Rattle.fdoca.specs.Unfolding.{column}
 use Rattle.field_types.specs.Rows.{prefixOf, formOf, ruleFor}
 use Rattle.field_types.specs.Parameters.{layoutNumber, inDigits}
@@ -19,10 +19,6 @@ use Rattle.fields.specs.Plan.{entryOf, Proper}
 use Rattle.fields.specs.Parts.{entryBy}
 use Rattle.fields.specs.Replaced.{Replaced}
 use Rattle.fields.proofs.Parts.{two-bytes, entry-made, made-proper}
-
--- the field with a size of its own
-abbrev sized : Field → Size → Field
-sized f size = record { id = f .id; code = f .code; type = f .type; mode = f .mode; size = size }
 
 -- id, type code and mode in an entry
 own-part : (f : Field) → Proper f → entryOf f / 65536 % 16777216 ≡ f .id + 256 * (f .code + 256 * f .mode)
@@ -59,7 +55,7 @@ module _ (entry p q a b : ℕ) (ea : a ≡ p) (eb : b ≡ q) where
             let (two, number) = two-bytes (ruleOf (f .type) .sizes) a b high low in
             let o : own ≡ f .id + 256 * (f .code + 256 * f .mode) = eo ∙ rw k (own-part f h) in
             let c : code ≡ f .code = omega (arith, h .id-fits, h .code-fits) in
-            er ∙ entry-made (sized f size) own layout (a * 256 + b) t two o (el f h t k c) number
+            er ∙ entry-made (withSize size f) own layout (a * 256 + b) t two o (el f h t k c) number
             ∙ rw (← ea, ← eb, lt-ltb 0 (a * 256 + b) (omega (arith, above)))
 
     pub replaced-digits : (r : ℕ) (d : Bool) → d ≡ inDigits code → d ≡ true → r ≡ entryBy own 4 (a * 256 + b) → Replaced entry p q r
@@ -73,13 +69,13 @@ module _ (entry p q a b : ℕ) (ea : a ≡ p) (eb : b ≡ q) where
         replaced-by layout r (λ f g t k c. (let n : eqb (layoutNumber (f .code)) 4 ≡ false = rw c at (sym ed ∙ h) in el ∙ rw k (layout-part f g) ∙ sym (own-layout f t (eqb-false _ 4 n)))) er
 
 -- a length that suits its type leaves the field proper
-pub column-proper : (f : Field) (a b : ℕ) → Proper f → typeOf (f .code) ≡ some (f .type) → goodLength (f .code) a b ≡ true → Proper (column a b f)
-unfolding goodLength
+pub column-proper : (f : Field) (a b : ℕ) → Proper f → typeOf (f .code) ≡ some (f .type) → goodColumn (f .code) a b ≡ true → Proper (column a b f)
+unfolding goodColumn
 column-proper f a b h t good = go (replaces a b) good
   where
     given : Size
     given = sizeOf (ruleOf (f .type) .sizes) a b
 
-    go : (x : Bool) → (if x then suitsType (typeOf (f .code)) a b else true) ≡ true → Proper (sized f (if x then given else f .size))
-    go true k = made-proper (sized f given) (h .id-fits) (h .id-given) (h .code-fits) (h .mode-fits) (rw t at k)
+    go : (x : Bool) → (if x then suitsType (typeOf (f .code)) a b else true) ≡ true → Proper (withSize (if x then given else f .size) f)
+    go true k = made-proper (withSize given f) (h .id-fits) (h .id-given) (h .code-fits) (h .mode-fits) (rw t at k)
     go false k = h

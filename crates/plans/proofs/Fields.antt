@@ -10,7 +10,7 @@ use lib.Dec.{ltb, eqb}
 use lib.ListN.{length, getD, take, drop, replicate, length-map}
 use lib.Seq.{sets}
 use Rattle.fdoca.specs.Basics.{if_then_else_, lookup, product, repeat}
-use Rattle.fdoca.specs.Triplet.{Kind, rowLayout, groupArray, Group, taken, factor}
+use Rattle.fdoca.specs.Triplet.{Kind, RLO, GDA, Group, taken, factor}
 use Rattle.fdoca.specs.Item.{Field}
 use Rattle.fdoca.specs.Unfolding.{Described, array, row, fieldsTaken, fieldsReferred, groupFields, addFields}
 use Rattle.fields.specs.Plan.{entryOf, Proper, Planned, empty, entry}
@@ -74,8 +74,8 @@ module _ (d s z e : List ℕ) (tied : Tied d s z e) where
   plan-group kind n p h rows g r = go kind (r .to) (r .known) (r .makes)
     where
       go : (kind : Kind) (D : Described) → lookup (g .ref) (describedBy d) ≡ some D → Makes kind g D → Plan (groupFields kind (describedBy d) g)
-      go rowLayout D o (of-row f t) = plan-repeat (factor g) _ (plan-referred n rows (g .ref) (taken g) D o (omega (arith, r .back)))
-      go groupArray (array f []) o (of-column good) =
+      go RLO D o (of-row f t) = plan-repeat (factor g) _ (plan-referred n rows (g .ref) (taken g) D o (omega (arith, r .back)))
+      go GDA (array f []) o (of-column good) =
           let k = tied .each (g .ref) (array f []) o in
           rw o (entry (column-proper f (g .byte1) (g .byte2) (k .proper) (k .typed) good) empty)
 

@@ -12,7 +12,7 @@ use mir.Val.{Fits}
 use lib.ListN.{length, getD, set, take, drop, replicate, length-append, length-replicate, length-map}
 use lib.Seq.{sets, length-sets}
 use Rattle.fdoca.specs.Basics.{lookup, repeat}
-use Rattle.fdoca.specs.Triplet.{Kind, rowLayout, groupArray}
+use Rattle.fdoca.specs.Triplet.{Kind, RLO, GDA}
 use Rattle.fdoca.specs.Item.{Field}
 use Rattle.fdoca.specs.Unfolding.{Described, array, row, fieldsTaken, fieldsReferred, column}
 use Rattle.fields.specs.Plan.{entryOf}
@@ -64,15 +64,15 @@ same-fields l n x f u v =
 -- ---- `column`
 
 module _ (d e : List ℕ) (g at : ℕ) (c : ColumnAt d e g) where
-  column-list : groupList d groupArray g ≡ column (getD d (g + 1) 0) (getD d (g + 2) 0) (c .field) ∷ []
+  column-list : groupList d GDA g ≡ column (getD d (g + 1) 0) (getD d (g + 2) 0) (c .field) ∷ []
   unfolding groupAt groupList
   column-list = rw (c .known)
 
-  pub column-place : at + 1 ≡ at + length (groupList d groupArray g)
+  pub column-place : at + 1 ≡ at + length (groupList d GDA g)
   column-place = rw column-list
 
   pub column-written : (plan : List ℕ) (i r : ℕ) → i ≡ getD d g 0 → Replaced (getD e i 0) (getD d (g + 1) 0) (getD d (g + 2) 0) r
-      → set plan at r ≡ sets plan at (map entryOf (groupList d groupArray g))
+      → set plan at r ≡ sets plan at (map entryOf (groupList d GDA g))
   column-written plan i r h k =
       let w : r ≡ entryOf (column (getD d (g + 1) 0) (getD d (g + 2) 0) (c .field)) = k .same (c .field) (c .proper) (c .typed) (rw h (c .entry)) in
       rw (column-list, w)
@@ -80,39 +80,39 @@ module _ (d e : List ℕ) (g at : ℕ) (c : ColumnAt d e g) where
 -- ---- `group`
 
 -- the kind by the construct type
-kind-array : (kind : ℕ) → kind ≡ 0x75 → kindOf kind ≡ groupArray
+pub kind-array : (head : ℕ) → head ≡ 0x75 → kindOf head ≡ GDA
 unfolding kindOf
-kind-array kind h = rw h
+kind-array head h = rw h
 
-kind-row : (kind : ℕ) → (kind ≡ 0x75 → ⊥) → kindOf kind ≡ rowLayout
+pub kind-row : (head : ℕ) → (head ≡ 0x75 → ⊥) → kindOf head ≡ RLO
 unfolding kindOf
-kind-row kind h = rw (ne-eqb kind 0x75 h)
+kind-row head h = rw (ne-eqb head 0x75 h)
 
-module _ (d s z e : List ℕ) (q g at kind : ℕ) (tied : Tied d s z e) (k : Refers (kindOf kind) d s q (groupAt d g)) (h : kind ≡ 0x75) where
-  array-list : groupList d (kindOf kind) g ≡ groupList d groupArray g
-  array-list = rw (kind-array kind h)
+kinds-differ : {A : Type 0} → RLO ≡ GDA → A
+kinds-differ e = absurd (let z : _≡_ {A = ℕ} 0 1 = cc in let w : ⊥ = omega arith in w)
+
+module _ (d s z e : List ℕ) (q g at head : ℕ) (tied : Tied d s z e) (k : Refers (kindOf head) d s q (groupAt d g)) (h : head ≡ 0x75) where
+  array-list : groupList d (kindOf head) g ≡ groupList d GDA g
+  array-list = rw (kind-array head h)
 
   pub column-found : ColumnAt d e g
   unfolding groupAt
-  column-found = go (kindOf kind) (kind-array kind h) (k .to) (k .known) (k .makes)
+  column-found = go (kindOf head) (kind-array head h) (k .to) (k .known) (k .makes)
     where
-      go : (m : Kind) → m ≡ groupArray → (D : Described) → lookup (getD d g 0) (describedBy d) ≡ some D → Makes m (groupAt d g) D → ColumnAt d e g
-      go groupArray t (array f []) o (of-column good) =
+      go : (m : Kind) → m ≡ GDA → (D : Described) → lookup (getD d g 0) (describedBy d) ≡ some D → Makes m (groupAt d g) D → ColumnAt d e g
+      go GDA t (array f []) o (of-column good) =
           let w = tied .each (getD d g 0) (array f []) o in
           record { field = f; known = o; entry = w .entry; proper = w .proper; typed = w .typed }
-      go rowLayout t D o m = absurd (not-array t)
-        where
-          not-array : rowLayout ≡ groupArray → ⊥
-          not-array x = let z : _≡_ {A = ℕ} 0 1 = cc in let w : ⊥ = omega arith in w
+      go RLO t D o m = kinds-differ t
 
-  pub column-room : (size : ℕ) → at + length (groupList d (kindOf kind) g) ≤ size → at + 1 ≤ size
+  pub column-room : (size : ℕ) → at + length (groupList d (kindOf head) g) ≤ size → at + 1 ≤ size
   column-room size l = rw (array-list, ← column-place d e g at column-found) at l
 
-  pub array-place : (b : ℕ) → b ≡ at + length (groupList d groupArray g) → b ≡ at + length (groupList d (kindOf kind) g)
+  pub array-place : (b : ℕ) → b ≡ at + length (groupList d GDA g) → b ≡ at + length (groupList d (kindOf head) g)
   array-place b u = u ∙ rw array-list
 
-  pub array-written : (plan plan′ : List ℕ) → plan′ ≡ sets plan at (map entryOf (groupList d groupArray g))
-      → plan′ ≡ sets plan at (map entryOf (groupList d (kindOf kind) g))
+  pub array-written : (plan plan′ : List ℕ) → plan′ ≡ sets plan at (map entryOf (groupList d GDA g))
+      → plan′ ≡ sets plan at (map entryOf (groupList d (kindOf head) g))
   array-written plan plan′ u = u ∙ rw array-list
 
 -- a group of an RLO
@@ -122,48 +122,45 @@ record RefersRow (d s : List ℕ) (g : ℕ) : Type 0 where
   repeats : 0 < getD d (g + 2) 0
   takes : Takes (getD d (g + 1) 0) to
 
-row-refers : (d s : List ℕ) (q g kind : ℕ) → Refers (kindOf kind) d s q (groupAt d g) → (kind ≡ 0x75 → ⊥) → RefersRow d s g
+row-refers : (d s : List ℕ) (q g head : ℕ) → Refers (kindOf head) d s q (groupAt d g) → (head ≡ 0x75 → ⊥) → RefersRow d s g
 unfolding groupAt
-row-refers d s q g kind k h = go (kindOf kind) (kind-row kind h) (k .makes)
+row-refers d s q g head k h = go (kindOf head) (kind-row head h) (k .makes)
   where
-    go : (m : Kind) → m ≡ rowLayout → Makes m (groupAt d g) (k .to) → RefersRow d s g
-    go rowLayout t (of-row f x) = record { to = k .to; known = k .known; repeats = f; takes = x }
-    go groupArray t x = absurd (not-row t)
-      where
-        not-row : groupArray ≡ rowLayout → ⊥
-        not-row x = let z : _≡_ {A = ℕ} 0 1 = cc in let w : ⊥ = omega arith in w
+    go : (m : Kind) → m ≡ RLO → Makes m (groupAt d g) (k .to) → RefersRow d s g
+    go RLO t (of-row f x) = record { to = k .to; known = k .known; repeats = f; takes = x }
+    go GDA t x = kinds-differ (sym t)
 
-pub row-repeats : (d s : List ℕ) (q g kind : ℕ) → Refers (kindOf kind) d s q (groupAt d g) → (kind ≡ 0x75 → ⊥) → 1 ≤ getD d (g + 2) 0
-row-repeats d s q g kind k h = row-refers d s q g kind k h .repeats
+pub row-repeats : (d s : List ℕ) (q g head : ℕ) → Refers (kindOf head) d s q (groupAt d g) → (head ≡ 0x75 → ⊥) → 1 ≤ getD d (g + 2) 0
+row-repeats d s q g head k h = row-refers d s q g head k h .repeats
 
-module _ (d s z e : List ℕ) (q g at kind : ℕ) (tied : Tied d s z e) (k : Refers (kindOf kind) d s q (groupAt d g)) (not-array : kind ≡ 0x75 → ⊥) where
+module _ (d s z e : List ℕ) (q g at head : ℕ) (tied : Tied d s z e) (k : Refers (kindOf head) d s q (groupAt d g)) (not-array : head ≡ 0x75 → ⊥) where
   r : RefersRow d s g
-  r = row-refers d s q g kind k not-array
+  r = row-refers d s q g head k not-array
 
-  is-row : kindOf kind ≡ rowLayout
-  is-row = kind-row kind not-array
+  is-row : kindOf head ≡ RLO
+  is-row = kind-row head not-array
 
   module _ (m : getD e (getD d g 0) 0 ≡ 0 → ⊥) (n : ℕ) (c : n ≡ entriesTaken (getD z (getD d g 0) 0) (getD d (g + 1) 0)) where
-    sda-list : (map entryOf (groupList d (kindOf kind) g) ≡ replicate (getD d (g + 2) 0 * n) (getD e (getD d g 0) 0)) × (length (groupList d (kindOf kind) g) ≡ getD d (g + 2) 0 * n)
+    sda-list : (map entryOf (groupList d (kindOf head) g) ≡ replicate (getD d (g + 2) 0 * n) (getD e (getD d g 0) 0)) × (length (groupList d (kindOf head) g) ≡ getD d (g + 2) 0 * n)
     unfolding groupAt groupList
     sda-list =
         let w = sda-fields d s z e (getD d g 0) (getD d (g + 1) 0) tied (r .to) (r .known) (r .takes) m in
         let once : fieldsReferred (getD d (g + 1) 0) (lookup (getD d g 0) (describedBy d)) ≡ replicate n (w .0) =
         w .1 ∙ ap (λ (k : ℕ). replicate k (w .0)) (sym c) in
-        same-fields (groupList d (kindOf kind) g) (getD d (g + 2) 0 * n) (getD e (getD d g 0) 0) (w .0)
+        same-fields (groupList d (kindOf head) g) (getD d (g + 2) 0 * n) (getD e (getD d g 0) 0) (w .0)
         (rw is-row (ap (repeat (getD d (g + 2) 0)) once) ∙ repeat-replicate (getD d (g + 2) 0) n (w .0)) (w .2)
 
-    pub sda-room : (size : ℕ) → at + length (groupList d (kindOf kind) g) ≤ size → at + getD d (g + 2) 0 * n ≤ size
+    pub sda-room : (size : ℕ) → at + length (groupList d (kindOf head) g) ≤ size → at + getD d (g + 2) 0 * n ≤ size
     sda-room size h = omega (arith, sda-list .1)
 
-    pub sda-fits : (plan : List ℕ) → at + length (groupList d (kindOf kind) g) ≤ length plan → length plan * 8 < 2 ^ 63 → Fits w64 (getD d (g + 2) 0 * n)
+    pub sda-fits : (plan : List ℕ) → at + length (groupList d (kindOf head) g) ≤ length plan → length plan * 8 < 2 ^ 63 → Fits w64 (getD d (g + 2) 0 * n)
     sda-fits plan h l = omega (arith, sda-list .1)
 
-    pub sda-place : (b : ℕ) → b ≡ at + getD d (g + 2) 0 * n → b ≡ at + length (groupList d (kindOf kind) g)
+    pub sda-place : (b : ℕ) → b ≡ at + getD d (g + 2) 0 * n → b ≡ at + length (groupList d (kindOf head) g)
     sda-place b u = omega (arith, sda-list .1)
 
     pub sda-written : (plan plan′ : List ℕ) → plan′ ≡ sets plan at (replicate (getD d (g + 2) 0 * n) (getD e (getD d g 0) 0))
-        → plan′ ≡ sets plan at (map entryOf (groupList d (kindOf kind) g))
+        → plan′ ≡ sets plan at (map entryOf (groupList d (kindOf head) g))
     sda-written plan plan′ u = u ∙ ap (sets plan at) (sym (sda-list .0))
 
   module _ (m : getD e (getD d g 0) 0 ≡ 0) where
@@ -174,31 +171,31 @@ module _ (d s z e : List ℕ) (q g at kind : ℕ) (tied : Tied d s z e) (k : Ref
     unfolding groupAt
     row-made = row-fields d s z e (getD d g 0) (getD d (g + 1) 0) tied (r .to) (r .known) m .1
 
-    row-list : groupList d (kindOf kind) g ≡ once ++ repeat (getD d (g + 2) 0 - 1) once
+    row-list : groupList d (kindOf head) g ≡ once ++ repeat (getD d (g + 2) 0 - 1) once
     unfolding groupAt groupList
     row-list =
         rw is-row (ap (repeat (getD d (g + 2) 0)) (row-fields d s z e (getD d g 0) (getD d (g + 1) 0) tied (r .to) (r .known) m .0))
         ∙ repeat-first (getD d (g + 2) 0) once (r .repeats)
 
-    row-length : length (groupList d (kindOf kind) g) ≡ length once + (getD d (g + 2) 0 - 1) * length once
+    row-length : length (groupList d (kindOf head) g) ≡ length once + (getD d (g + 2) 0 - 1) * length once
     row-length = ap length row-list ∙ length-append once _ ∙ ap (λ (n : ℕ). length once + n) (length-repeat (getD d (g + 2) 0 - 1) once)
 
-    pub row-room : (size : ℕ) → at + length (groupList d (kindOf kind) g) ≤ size → at + length once ≤ size
+    pub row-room : (size : ℕ) → at + length (groupList d (kindOf head) g) ≤ size → at + length once ≤ size
     row-room size h = omega (arith, row-length)
 
     module _ (b : ℕ) (u : b ≡ at + length once) where
       between-once : b - at ≡ length once
       between-once = omega arith
 
-      pub copies-room : (plan plan₁ : List ℕ) → at + length (groupList d (kindOf kind) g) ≤ length plan → plan₁ ≡ sets plan at (map entryOf once)
+      pub copies-room : (plan plan₁ : List ℕ) → at + length (groupList d (kindOf head) g) ≤ length plan → plan₁ ≡ sets plan at (map entryOf once)
           → b + (getD d (g + 2) 0 - 1) * (b - at) ≤ length plan₁
       copies-room plan plan₁ h v = rw (v, length-sets, between-once) (omega (arith, row-length))
 
-      pub row-place : (b′ : ℕ) → b′ ≡ b + (getD d (g + 2) 0 - 1) * (b - at) → b′ ≡ at + length (groupList d (kindOf kind) g)
+      pub row-place : (b′ : ℕ) → b′ ≡ b + (getD d (g + 2) 0 - 1) * (b - at) → b′ ≡ at + length (groupList d (kindOf head) g)
       row-place b′ u′ = rw between-once at u′ ∙ omega (arith, row-length)
 
-      pub row-written : (plan plan₁ plan₂ : List ℕ) → at + length (groupList d (kindOf kind) g) ≤ length plan → plan₁ ≡ sets plan at (map entryOf once)
-          → plan₂ ≡ sets plan₁ b (repeat (getD d (g + 2) 0 - 1) (take (b - at) (drop at plan₁))) → plan₂ ≡ sets plan at (map entryOf (groupList d (kindOf kind) g))
+      pub row-written : (plan plan₁ plan₂ : List ℕ) → at + length (groupList d (kindOf head) g) ≤ length plan → plan₁ ≡ sets plan at (map entryOf once)
+          → plan₂ ≡ sets plan₁ b (repeat (getD d (g + 2) 0 - 1) (take (b - at) (drop at plan₁))) → plan₂ ≡ sets plan at (map entryOf (groupList d (kindOf head) g))
       row-written plan plan₁ plan₂ h v v′ =
           let l : List ℕ = map entryOf once in
           let n : ℕ = getD d (g + 2) 0 - 1 in

@@ -151,8 +151,8 @@ off q t e = omega arith
 
 -- ---- the invariant: the fields `done` are written, and the groups that are left give the others of the row at p
 
-pub record Going (d s : List ℕ) (p at kind : ℕ) (plan₀ plan : List ℕ) (a g end : ℕ) : Type 0 where
-  pub kind-is : kind ≡ getD d (p + 1) 0
+pub record Going (d s : List ℕ) (p at head : ℕ) (plan₀ plan : List ℕ) (a g end : ℕ) : Type 0 where
+  pub head-is : head ≡ getD d (p + 1) 0
   pub done : List Field
   pub written : plan ≡ sets plan₀ at (map entryOf done)
   pub place : a ≡ at + length done
@@ -162,13 +162,13 @@ pub record Going (d s : List ℕ) (p at kind : ℕ) (plan₀ plan : List ℕ) (a
   pub inside : g ≤ length d
   pub same-length : length plan ≡ length plan₀
 
-module _ (d s : List ℕ) (p at kind : ℕ) (plan₀ : List ℕ) where
-  pub start : kind ≡ getD d (p + 1) 0 → RowAt d s p (rowList d p) → Going d s p at kind plan₀ plan₀ at (p + 3) (p + getD d p 0)
+module _ (d s : List ℕ) (p at head : ℕ) (plan₀ : List ℕ) where
+  pub start : head ≡ getD d (p + 1) 0 → RowAt d s p (rowList d p) → Going d s p at head plan₀ plan₀ at (p + 3) (p + getD d p 0)
   unfolding rowList groupsAt
   start e r =
       let q : getD d p 0 - 3 ≡ p + getD d p 0 - (p + 3) = omega arith in
       record {
-        kind-is = e;
+        head-is = e;
         done = [];
         written = refl;
         place = omega arith;
@@ -179,7 +179,7 @@ module _ (d s : List ℕ) (p at kind : ℕ) (plan₀ : List ℕ) where
         same-length = refl;
       }
 
-  module _ (plan : List ℕ) (a g end : ℕ) (w : Going d s p at kind plan₀ plan a g end) where
+  module _ (plan : List ℕ) (a g end : ℕ) (w : Going d s p at head plan₀ plan a g end) where
     -- at a group
     module _ (h : g < end) where
       pub within : g + 3 ≤ length d
@@ -188,11 +188,11 @@ module _ (d s : List ℕ) (p at kind : ℕ) (plan₀ : List ℕ) where
       refers-back : Refers (kindAt d p) d s p (groupAt d g)
       refers-back = parted d s p g end h (w .fine) .0
 
-      pub refers : Refers (kindOf kind) d s (length d) (groupAt d g)
+      pub refers : Refers (kindOf head) d s (length d) (groupAt d g)
       refers =
           let r = refers-back in
           let b : getD s (groupAt d g .ref) 0 < p = r .back in
-          rw (w .kind-is)
+          rw (w .head-is)
           (record { to = r .to; known = r .known; back = omega (arith, w .beyond, w .inside); id-fits = r .id-fits; makes = r .makes })
 
       pub down : (t : ℕ) → p + p ≡ t → getD s (getD d g 0) 0 + getD s (getD d g 0) 0 + 1 < t
@@ -207,23 +207,23 @@ module _ (d s : List ℕ) (p at kind : ℕ) (plan₀ : List ℕ) where
           ∙ ap (λ (l : List Field). w .done ++ l) (adds-first (kindAt d p) (describedBy d) (groupAt d g) (left d (g + 3) end))
           ∙ sym (append-assoc (w .done) (groupList d (kindAt d p) g) (addFields (kindAt d p) (describedBy d) [] (left d (g + 3) end)))
 
-      pub room : at + length (rowList d p) ≤ length plan₀ → a + length (groupList d (kindOf kind) g) ≤ length plan
+      pub room : at + length (rowList d p) ≤ length plan₀ → a + length (groupList d (kindOf head) g) ≤ length plan
       room k =
           let e : length (rowList d p) ≡ length (w .done) + length (groupList d (kindAt d p) g) + length (addFields (kindAt d p) (describedBy d) [] (left d (g + 3) end)) =
           ap length split ∙ simp length-append in
-          rw (w .kind-is) (omega (arith, w .place, w .same-length))
+          rw (w .head-is) (omega (arith, w .place, w .same-length))
 
-      pub more : (plan′ : List ℕ) (a′ : ℕ) → plan′ ≡ sets plan a (map entryOf (groupList d (kindOf kind) g)) → a′ ≡ a + length (groupList d (kindOf kind) g)
-          → Going d s p at kind plan₀ plan′ a′ (g + 3) end
+      pub more : (plan′ : List ℕ) (a′ : ℕ) → plan′ ≡ sets plan a (map entryOf (groupList d (kindOf head) g)) → a′ ≡ a + length (groupList d (kindOf head) g)
+          → Going d s p at head plan₀ plan′ a′ (g + 3) end
       more plan′ a′ u′ v′ =
-          let u : plan′ ≡ sets plan a (map entryOf (groupList d (kindAt d p) g)) = rw (w .kind-is) at u′ in
-          let v : a′ ≡ a + length (groupList d (kindAt d p) g) = rw (w .kind-is) at v′ in
+          let u : plan′ ≡ sets plan a (map entryOf (groupList d (kindAt d p) g)) = rw (w .head-is) at u′ in
+          let v : a′ ≡ a + length (groupList d (kindAt d p) g) = rw (w .head-is) at v′ in
           let l : List ℕ = map entryOf (groupList d (kindAt d p) g) in
           let e : length (w .done ++ groupList d (kindAt d p) g) ≡ length (w .done) + length (groupList d (kindAt d p) g) = length-append (w .done) (groupList d (kindAt d p) g) in
           let q : a ≡ at + length (map entryOf (w .done)) = w .place ∙ ap (λ (n : ℕ). at + n) (sym (length-map (w .done) entryOf)) in
           let b : p < g = w .beyond in
           record {
-            kind-is = w .kind-is;
+            head-is = w .head-is;
             done = w .done ++ groupList d (kindAt d p) g;
             written =
                 u
@@ -241,11 +241,11 @@ module _ (d s : List ℕ) (p at kind : ℕ) (plan₀ : List ℕ) where
 
     -- behind the end of a triplet
     module _ (h : end ≤ g) where
-      behind : (endOfCPT d g ≡ 0 → ⊥) → Going d s p at kind plan₀ plan a (g + 3) (endOfCPT d g)
+      behind : (endOfCPT d g ≡ 0 → ⊥) → Going d s p at head plan₀ plan a (g + 3) (endOfCPT d g)
       behind c =
           let b : p < g = w .beyond in
           record {
-            kind-is = w .kind-is;
+            head-is = w .head-is;
             done = w .done;
             written = w .written;
             place = w .place;
@@ -256,8 +256,8 @@ module _ (d s : List ℕ) (p at kind : ℕ) (plan₀ : List ℕ) where
             same-length = w .same-length;
           }
 
-      pub over : (e : ℕ) → e ≡ endOfCPT d g → (e ≡ 0 → ⊥) → Going d s p at kind plan₀ plan a (g + 3) e
-      over e u z = subst (λ (n : ℕ). Going d s p at kind plan₀ plan a (g + 3) n) (sym u) (behind (λ c. z (u ∙ c)))
+      pub over : (e : ℕ) → e ≡ endOfCPT d g → (e ≡ 0 → ⊥) → Going d s p at head plan₀ plan a (g + 3) e
+      over e u z = subst (λ (n : ℕ). Going d s p at head plan₀ plan a (g + 3) n) (sym u) (behind (λ c. z (u ∙ c)))
 
       all-done : endOfCPT d g ≡ 0 → rowList d p ≡ w .done
       all-done c =

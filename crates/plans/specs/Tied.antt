@@ -9,9 +9,9 @@ use lib.Dec.{ltb, eqb}
 use lib.ListN.{length, getD, drop}
 use Rattle.fdoca.specs.Basics.{if_then_else_, product, lookup}
 use Rattle.fdoca.specs.FieldType.{typeOf}
-use Rattle.fdoca.specs.Triplet.{triplets, Kind, rowLayout, groupArray, Group, taken, factor}
+use Rattle.fdoca.specs.Triplet.{triplets, Kind, RLO, GDA, Group, taken, factor}
 use Rattle.fdoca.specs.Item.{Field}
-use Rattle.fdoca.specs.Check.{goodLength}
+use Rattle.fdoca.specs.Check.{goodColumn}
 use Rattle.fdoca.specs.Unfolding.{Described, array, row, fieldsReferred, closed, addFields, unfoldTriplets, start}
 use Rattle.fields.specs.Plan.{entryOf, Proper}
 
@@ -40,7 +40,7 @@ groupsIn n (a ∷ b ∷ c ∷ rest) =
 
 -- The kind of a construct type, and of the triplet at p, an RLO or a GDA.
 unfoldable pub kindOf : (type : ℕ) → Kind
-kindOf type = if eqb type 0x75 then groupArray else rowLayout
+kindOf type = if eqb type 0x75 then GDA else RLO
 
 abbrev pub kindAt : List ℕ → (p : ℕ) → Kind
 kindAt d p = kindOf (getD d (p + 1) 0)
@@ -74,8 +74,8 @@ pub data Takes : ℕ → Described → Type 0 where
 
 -- A group makes a list of what it refers to: in an RLO one or more times, in a GDA of an SDA without extents, with a length that is good for its type.
 pub data Makes : Kind → Group → Described → Type 0 where
-  of-row : {g : Group} {D : Described} → 0 < factor g → Takes (taken g) D → Makes rowLayout g D
-  of-column : {g : Group} {f : Field} → goodLength (f .code) (g .byte1) (g .byte2) ≡ true → Makes groupArray g (array f [])
+  of-row : {g : Group} {D : Described} → 0 < factor g → Takes (taken g) D → Makes RLO g D
+  of-column : {g : Group} {f : Field} → goodColumn (f .code) (g .byte1) (g .byte2) ≡ true → Makes GDA g (array f [])
 
 -- A group of the row at p refers to an id whose triplet stands before p. `s` has the positions.
 pub record Refers (kind : Kind) (d s : List ℕ) (p : ℕ) (g : Group) : Type 0 where

@@ -7,7 +7,7 @@ use lib.Dec.{ltb, eqb}
 use lib.ListN.{length, getD}
 use Rattle.fdoca.specs.Basics.{if_then_else_, lookup}
 use Rattle.fdoca.specs.FieldType.{typeOf}
-use Rattle.fdoca.specs.Triplet.{Kind, Group}
+use Rattle.fdoca.specs.Triplet.{Kind, GDA, Group}
 use Rattle.fdoca.specs.Item.{Field}
 use Rattle.fdoca.specs.Unfolding.{array, groupFields}
 use Rattle.fields.specs.Plan.{entryOf, Proper}
@@ -19,6 +19,10 @@ groupAt d g = record { ref = getD d g 0; byte1 = getD d (g + 1) 0; byte2 = getD 
 
 unfoldable pub groupList : List ℕ → Kind → (g : ℕ) → List Field
 groupList d kind g = groupFields kind (describedBy d) (groupAt d g)
+
+-- The list of a GDA's group at g.
+abbrev pub columnList : List ℕ → (g : ℕ) → List Field
+columnList d g = groupList d GDA g
 
 -- The group at g refers to an SDA without extents, whose entry `e` has.
 pub record ColumnAt (d e : List ℕ) (g : ℕ) : Type 0 where

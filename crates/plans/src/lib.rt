@@ -6,12 +6,11 @@ ghost use lib.ListN.{length, take, drop, replicate};
 ghost use lib.Seq.{sets};
 ghost use Rattle.fdoca.specs.Basics.{repeat};
 ghost use Rattle.fields.specs.Plan.{entryOf};
-ghost use Rattle.fdoca.specs.Triplet.{groupArray};
 ghost use Rattle.plans.specs.Tied.{listOf, kindOf, rowList, Refers, RowAt, Tied, Known};
-ghost use Rattle.plans.specs.Writing.{groupAt, groupList, ColumnAt, entriesTaken, endOfCPT};
+ghost use Rattle.plans.specs.Writing.{groupAt, groupList, columnList, ColumnAt, entriesTaken, endOfCPT};
 
 // The construct types of a GDA and a CPT.
-const GDA: u8 = 0x75;
+pub const GDA: u8 = 0x75;
 
 const CPT: u8 = 0x7F;
 
@@ -72,8 +71,8 @@ fn cpt_end(desc: &[u8], g: usize) -> usize
 // Writes the column of a GDA's group at g to `at`, and gives the place behind it: the entry of the SDA's field, with the length that holds.
 fn column(desc: &[u8], entries: &[u64; 256], plan: &mut [u64], g: usize, at: usize) -> usize
     requires { ⌜ (g + 3 ≤ length (now desc)) × ColumnAt (now desc) (now entries) g × (at + 1 ≤ length (now plan)) ⌝ }
-    ensures { λ r. ⌜ r ≡ at + length (groupList (now (desc .entry)) groupArray g) ⌝ }
-    ensures { λ _. ⌜ now (plan .exit) ≡ sets (now (plan .entry)) at (map entryOf (groupList (now (desc .entry)) groupArray g)) ⌝ }
+    ensures { λ r. ⌜ r ≡ at + length (columnList (now (desc .entry)) g) ⌝ }
+    ensures { λ _. ⌜ now (plan .exit) ≡ sets (now (plan .entry)) at (map entryOf (columnList (now (desc .entry)) g)) ⌝ }
 {
     let id = numbers::wide(desc[g]);
     let own = entries[id];
@@ -96,13 +95,13 @@ fn expand(
     ensures { λ r. ⌜ r ≡ at + length (rowList (now (desc .entry)) p) ⌝ }
     ensures { λ _. ⌜ now (plan .exit) ≡ sets (now (plan .entry)) at (map entryOf (rowList (now (desc .entry)) p)) ⌝ }
 {
-    let kind = desc[p + 1];
+    let head = desc[p + 1];
     let mut a = at;
     let mut g = p + 3;
     let mut end = p + desc[p] as usize;
     loop {
         if g < end {
-            a = group(desc, starts, sizes, entries, plan, g, a, kind);
+            a = group(desc, starts, sizes, entries, plan, g, a, head);
         } else {
             end = cpt_end(desc, g);
             if end == 0 {
@@ -113,7 +112,7 @@ fn expand(
     }
 }
 
-// Writes the list of the group at g, of an RLO or a GDA, from `at` on, and gives the place behind it. A row that it refers to is written by
+// Writes the list of the group at g from `at` on, and gives the place behind it. `head` is the construct type of the row's head. A row that it refers to is written by
 // going down to it once; its repetitions are copies.
 fn group(
     desc: &[u8],
@@ -123,15 +122,15 @@ fn group(
     plan: &mut [u64],
     g: usize,
     at: usize,
-    kind: u8,
+    head: u8,
 ) -> usize
     requires { ⌜ Tied (now desc) (now starts) (now sizes) (now entries) × (g + 3 ≤ length (now desc))
-        × Refers (kindOf kind) (now desc) (now starts) (length (now desc)) (groupAt (now desc) g)
-        × (at + length (groupList (now desc) (kindOf kind) g) ≤ length (now plan)) ⌝ }
-    ensures { λ r. ⌜ r ≡ at + length (groupList (now (desc .entry)) (kindOf kind) g) ⌝ }
-    ensures { λ _. ⌜ now (plan .exit) ≡ sets (now (plan .entry)) at (map entryOf (groupList (now (desc .entry)) (kindOf kind) g)) ⌝ }
+        × Refers (kindOf head) (now desc) (now starts) (length (now desc)) (groupAt (now desc) g)
+        × (at + length (groupList (now desc) (kindOf head) g) ≤ length (now plan)) ⌝ }
+    ensures { λ r. ⌜ r ≡ at + length (groupList (now (desc .entry)) (kindOf head) g) ⌝ }
+    ensures { λ _. ⌜ now (plan .exit) ≡ sets (now (plan .entry)) at (map entryOf (groupList (now (desc .entry)) (kindOf head) g)) ⌝ }
 {
-    if kind == GDA {
+    if head == GDA {
         return column(desc, entries, plan, g, at);
     }
     let id = desc[g] as usize;

@@ -12,14 +12,15 @@ use borrow.Author.Tests.{lt-ltb, le-ltb, eq-eqb, ne-eqb}
 use mir.Syntax.{w64}
 use mir.Val.{Fits}
 use Rattle.fdoca.specs.Basics.{refuse, ok, _>>=_, _>>_, reject}
-use Rattle.fdoca.specs.Triplet.{Kind, rowLayout, groupArray}
-use Rattle.fdoca.specs.Check.{Entry, array, row, countTaken, goodLength, fits, maxItems, countAdded, addGroup}
+use Rattle.fdoca.specs.Triplet.{Kind, RLO, GDA}
+use Rattle.fdoca.specs.Check.{Entry, array, row, countTaken, goodColumn, fits, maxItems, countAdded, addGroup}
 use Rattle.fdoca.proofs.Tests.{by-lt}
 use Rattle.plans.specs.Tied.{kindOf}
+use Rattle.plans.proofs.Referred.{kind-array, kind-row}
 use Rattle.triplets.specs.declared.Sum.{Sum}
 use Rattle.sdas.proofs.Outcomes.{below, refused-outcome}
 use Rattle.sdas.specs.Tables.{outcome, lowerOfEntry, Positive, Coded, Entered, KeptAs}
-use Rattle.triplets.specs.Judged.{groupOf, summed, AddedGroup, Counted, CountedRow}
+use Rattle.triplets.specs.Judged.{groupOf, summed, AddedGroup, Counted, CountedElements}
 
 -- a row's count with n more items
 module _ (sum n : ℕ) (small : sum ≤ 4096) where
@@ -64,28 +65,28 @@ more-items kind size number byte1 byte2 sum n r t e =
     }
 
 -- a group of an RLO
-module _ (size taken factor sum : ℕ) (small : sum ≤ 4096) where
+module _ (size taken factor sum : ℕ) where
   -- 9: repetition 0
-  pub group-never : (r : Sum) → r .number ≡ 9 → r .count ≡ 0 → factor ≡ 0 → CountedRow size taken factor sum r
+  pub group-never : (r : Sum) → r .number ≡ 9 → r .count ≡ 0 → factor ≡ 0 → CountedElements size taken factor sum r
   unfolding addGroup countAdded
   group-never r e z f = record { counted = λ number. refused-entry 9 r (λ q. omega arith) e z (λ p ref start y k. rw (eq-eqb factor 0 f)) }
 
   -- a group that takes n items of its reference
   takes : (n : ℕ) (r : Sum) → (factor ≡ 0 → ⊥) → ((start number : ℕ) (y : Entry) → Entered start size number y → countTaken taken y ≡ some n)
-      → r ≡ summed sum (factor * n) → CountedRow size taken factor sum r
+      → r ≡ summed sum (factor * n) → CountedElements size taken factor sum r
   unfolding countAdded
   takes n r f t e =
-      record { counted = λ number. more-items rowLayout size number taken factor sum (factor * n) r (λ p ref start y k. rw (ne-eqb factor 0 f, t start number y k)) e }
+      record { counted = λ number. more-items RLO size number taken factor sum (factor * n) r (λ p ref start y k. rw (ne-eqb factor 0 f, t start number y k)) e }
 
   -- elements taken 0 keeps the reference as it is
   pub group-all : (times count : ℕ) (r : Sum) → (factor ≡ 0 → ⊥) → taken ≡ 0 → times ≡ factor → count ≡ size % 65536
-      → r ≡ summed sum (times * count) → CountedRow size taken factor sum r
+      → r ≡ summed sum (times * count) → CountedElements size taken factor sum r
   group-all times count r f z e c q =
       takes count r f (λ start number y k. rw z (ap some (sym (k .count) ∙ sym c))) (rw e at q)
 
   -- 9: elements taken over an RLO, a GDA or an SDA without extents
   pub group-none : (lower : ℕ) (r : Sum) → r .number ≡ 9 → r .count ≡ 0 → (factor ≡ 0 → ⊥) → (taken ≡ 0 → ⊥) → lower ≡ size / 65536 → lower ≡ 0
-      → CountedRow size taken factor sum r
+      → CountedElements size taken factor sum r
   unfolding addGroup countAdded
   group-none lower r e z f t l w = record { counted = λ number. refused-entry 9 r (λ q. omega arith) e z (λ p ref start y k. go number start p ref y k) }
     where
@@ -95,12 +96,12 @@ module _ (size taken factor sum : ℕ) (small : sum ≤ 4096) where
       taking (suc k) (array v (x ∷ xs)) a b c = absurd (let q : ⊥ = omega arith in q)
       taking (suc k) (row n) a b c = refl
 
-      go : (number start p ref : ℕ) (y : Entry) → Entered start size number y → addGroup rowLayout p sum (groupOf ref taken factor) (some y) ≡ refuse 9 p
+      go : (number start p ref : ℕ) (y : Entry) → Entered start size number y → addGroup RLO p sum (groupOf ref taken factor) (some y) ≡ refuse 9 p
       go number start p ref y k = rw (ne-eqb factor 0 f, taking taken y t (sym (k .lower) ∙ sym l ∙ w) (k .positive))
 
   -- elements taken stands for the highest extent
   pub group-some : (times taking lower : ℕ) (r : Sum) → (factor ≡ 0 → ⊥) → (taken ≡ 0 → ⊥) → times ≡ factor → taking ≡ taken → lower ≡ size / 65536
-      → (lower ≡ 0 → ⊥) → r ≡ summed sum (times * (taking * lower)) → CountedRow size taken factor sum r
+      → (lower ≡ 0 → ⊥) → r ≡ summed sum (times * (taking * lower)) → CountedElements size taken factor sum r
   group-some times taking lower r f t e g l w q = takes (taken * lower) r f (λ start number y k. go taken y t (l ∙ k .lower)) (rw (e, g) at q)
     where
       go : (k : ℕ) (y : Entry) → (k ≡ 0 → ⊥) → lower ≡ lowerOfEntry y → countTaken k y ≡ some (k * lower)
@@ -110,15 +111,15 @@ module _ (size taken factor sum : ℕ) (small : sum ≤ 4096) where
       go (suc k) (row n) a b = absurd (w b)
 
 -- a group of a GDA
-module _ (size number a b sum : ℕ) (small : sum ≤ 4096) where
+module _ (size number a b sum : ℕ) where
   -- 21: what it refers to does not fit
   unfit : (r : Sum) → r .number ≡ 21 → r .count ≡ 0 → ((ref start : ℕ) (y : Entry) → Entered start size number y → fits (groupOf ref a b) y ≡ false)
-      → Counted groupArray size number a b sum r
+      → Counted GDA size number a b sum r
   unfolding addGroup countAdded
   unfit r e z f = refused-entry 21 r (λ q. omega arith) e z (λ p ref start y k. rw (f ref start y k))
 
   -- an RLO or a GDA
-  pub column-row : (r : Sum) → r .number ≡ 21 → r .count ≡ 0 → number ≡ 0 → Counted groupArray size number a b sum r
+  pub column-row : (r : Sum) → r .number ≡ 21 → r .count ≡ 0 → number ≡ 0 → Counted GDA size number a b sum r
   column-row r e z n = unfit r e z (λ ref start y k. go ref y (k .coded))
     where
       go : (ref : ℕ) (y : Entry) → Coded number y → fits (groupOf ref a b) y ≡ false
@@ -127,7 +128,7 @@ module _ (size number a b sum : ℕ) (small : sum ≤ 4096) where
       go ref (row m) k = refl
 
   -- an SDA with extents
-  pub column-extents : (lower : ℕ) (r : Sum) → r .number ≡ 21 → r .count ≡ 0 → lower ≡ size / 65536 → (lower ≡ 0 → ⊥) → Counted groupArray size number a b sum r
+  pub column-extents : (lower : ℕ) (r : Sum) → r .number ≡ 21 → r .count ≡ 0 → lower ≡ size / 65536 → (lower ≡ 0 → ⊥) → Counted GDA size number a b sum r
   column-extents lower r e z l n = unfit r e z (λ ref start y k. go ref y (sym (k .lower)))
     where
       go : (ref : ℕ) (y : Entry) → lowerOfEntry y ≡ size / 65536 → fits (groupOf ref a b) y ≡ false
@@ -137,7 +138,7 @@ module _ (size number a b sum : ℕ) (small : sum ≤ 4096) where
 
   -- an SDA without extents, of the type code at hand
   module _ (lower code : ℕ) (good : Bool) (n : number ≡ 0 → ⊥) (l : lower ≡ size / 65536) (w : lower ≡ 0) (c : code ≡ number / 16777216 % 256)
-      (g : good ≡ goodLength code a b) where
+      (g : good ≡ goodColumn code a b) where
     single : (ref start : ℕ) (y : Entry) → Entered start size number y → fits (groupOf ref a b) y ≡ good
     single ref start y k = go y (sym (k .lower)) (k .positive) (k .coded)
       where
@@ -146,12 +147,12 @@ module _ (size number a b sum : ℕ) (small : sum ≤ 4096) where
         go (array v (x ∷ xs)) o p k = absurd (let q : ⊥ = omega arith in q)
         go (row m) o p k = absurd (n k)
 
-    pub column-unsuited : (r : Sum) → r .number ≡ 21 → r .count ≡ 0 → good ≡ false → Counted groupArray size number a b sum r
+    pub column-unsuited : (r : Sum) → r .number ≡ 21 → r .count ≡ 0 → good ≡ false → Counted GDA size number a b sum r
     column-unsuited r e z f = unfit r e z (λ ref start y k. single ref start y k ∙ f)
 
-    pub column-added : (r : Sum) → good ≡ true → r ≡ summed sum 1 → Counted groupArray size number a b sum r
+    pub column-added : (r : Sum) → good ≡ true → r ≡ summed sum 1 → Counted GDA size number a b sum r
     unfolding countAdded
-    column-added r f e = more-items groupArray size number a b sum 1 r (λ p ref start y k. rw (single ref start y k ∙ f)) e
+    column-added r f e = more-items GDA size number a b sum 1 r (λ p ref start y k. rw (single ref start y k ∙ f)) e
 
 -- a group by the construct type of the row's head
 module _ (head start size number a b sum : ℕ) (r : Sum) where
@@ -171,13 +172,11 @@ module _ (head start size number a b sum : ℕ) (r : Sum) where
       go p ref none k = absurd (h k)
       go p ref (some y) k = c .result p ref start y k
 
-  pub of-array : (start ≡ 65535 → ⊥) → head ≡ 0x75 → Counted groupArray size number a b sum r → AddedGroup (kindOf head) start size number a b sum r
-  unfolding kindOf
-  of-array h q c = rw q (described groupArray h c)
+  pub of-array : (start ≡ 65535 → ⊥) → head ≡ 0x75 → Counted GDA size number a b sum r → AddedGroup (kindOf head) start size number a b sum r
+  of-array h q c = rw (kind-array head q) (described GDA h c)
 
-  pub of-row : (start ≡ 65535 → ⊥) → (head ≡ 0x75 → ⊥) → CountedRow size a b sum r → AddedGroup (kindOf head) start size number a b sum r
-  unfolding kindOf
-  of-row h q c = rw (ne-eqb head 0x75 q) (described rowLayout h (c .counted number))
+  pub of-row : (start ≡ 65535 → ⊥) → (head ≡ 0x75 → ⊥) → CountedElements size a b sum r → AddedGroup (kindOf head) start size number a b sum r
+  of-row h q c = rw (kind-row head q) (described RLO h (c .counted number))
 
 -- products of a group fit
 module _ (a b c : ℕ) where

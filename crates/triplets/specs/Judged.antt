@@ -7,7 +7,7 @@ use mathlib.Core.Option.{Option, some}
 use lib.Dec.{ltb}
 use lib.ListN.{length, getD}
 use Rattle.fdoca.specs.Basics.{if_then_else_}
-use Rattle.fdoca.specs.Triplet.{Kind, rowLayout, Group, idOf}
+use Rattle.fdoca.specs.Triplet.{Kind, RLO, GDA, Group, idOf}
 use Rattle.fdoca.specs.Check.{Entry, State, maxItems, addGroup, addGroups, checkRow, checkCPT, checkISD}
 use Rattle.plans.specs.Tied.{kindOf}
 use Rattle.sdas.specs.Tables.{outcome, Entered, KeptAs, Agrees}
@@ -37,8 +37,11 @@ pub record Counted (kind : Kind) (size number byte1 byte2 sum : ℕ) (r : Sum) :
   pub small : r .count ≤ 4096
 
 -- In an RLO the number of a field plays no part.
-pub record CountedRow (size taken factor sum : ℕ) (r : Sum) : Type 0 where
-  pub counted : (number : ℕ) → Counted rowLayout size number taken factor sum r
+pub record CountedElements (size taken factor sum : ℕ) (r : Sum) : Type 0 where
+  pub counted : (number : ℕ) → Counted RLO size number taken factor sum r
+
+abbrev pub CountedColumn : (size number a b sum : ℕ) → Sum → Type 0
+CountedColumn size number a b sum r = Counted GDA size number a b sum r
 
 -- What adding the groups gives.
 pub record AddedGroups (kind : Kind) (gs : List Group) (s z e : List ℕ) (sum : ℕ) (r : Sum) : Type 0 where

@@ -3,19 +3,17 @@ ghost use mathlib.Core.Path.{_≡_};
 ghost use Prim.Native.Nat.{_/_, _%_, _≤_, _<_};
 ghost use mathlib.Core.Bool.{true};
 ghost use mathlib.Core.List.{[], _∷_};
-ghost use Rattle.fdoca.specs.Triplet.{groupArray, groupsOf};
+ghost use Rattle.fdoca.specs.Triplet.{groupsOf};
 ghost use Rattle.fdoca.specs.Basics.{elem};
 ghost use Rattle.fdoca.specs.Check.{goodLengthRow, goodLengthISD, goodISD};
 ghost use Rattle.sdas.specs.Tables.{Agreeing};
 ghost use Rattle.plans.specs.Tied.{kindOf};
-ghost use Rattle.triplets.specs.Judged.{summed, Counted, CountedRow, AddedGroup, AddedGroups, JudgedRow, JudgedCPT, JudgedISD};
+ghost use Rattle.triplets.specs.Judged.{summed, CountedElements, CountedColumn, AddedGroup, AddedGroups, JudgedRow, JudgedCPT, JudgedISD};
+use plans::GDA;
 use sdas::MOST;
 use sdas::NOWHERE;
 
-// The construct type of a GDA.
-pub const GDA: u8 = 0x75;
-
-// By what the number of a field is divided, so that its type code stands lowest.
+// By what an entry is divided, so that the type code stands lowest.
 const CODE: u64 = 16777216;
 
 // A count of items, or the number of the refusal that stands in its way.
@@ -77,7 +75,7 @@ fn total(sum: usize, n: usize) -> Sum
 // The count of an RLO with one more group, or the number of the group's refusal. `size` is what the tables have for the id that it refers to.
 fn add_elements(size: u32, taken: u8, factor: u8, sum: usize) -> Sum
     requires { ⌜ sum ≤ 4096 ⌝ }
-    ensures { λ r. ⌜ CountedRow size taken factor sum r ⌝ }
+    ensures { λ r. ⌜ CountedElements size taken factor sum r ⌝ }
 {
     if factor == 0 {
         return refusal(9);
@@ -95,20 +93,20 @@ fn add_elements(size: u32, taken: u8, factor: u8, sum: usize) -> Sum
     total(sum, times * part)
 }
 
-// The count of a GDA with one more group, or the number of the group's refusal. `number` is that of an SDA's field, and has its type code; 0 is
+// The count of a GDA with one more group, or the number of the group's refusal. `entry` is that of an SDA's field, and has its type code; 0 is
 // no SDA's. `a` and `b` are the two bytes of the length.
-fn add_column(size: u32, number: u64, a: u8, b: u8, sum: usize) -> Sum
+fn add_column(size: u32, entry: u64, a: u8, b: u8, sum: usize) -> Sum
     requires { ⌜ sum ≤ 4096 ⌝ }
-    ensures { λ r. ⌜ Counted groupArray size number a b sum r ⌝ }
+    ensures { λ r. ⌜ CountedColumn size entry a b sum r ⌝ }
 {
-    if number == 0 {
+    if entry == 0 {
         return refusal(21);
     }
-    let extents = high(size);
-    if extents != 0 {
+    let lower = high(size);
+    if lower != 0 {
         return refusal(21);
     }
-    let code = (number / CODE % 256) as u8;
+    let code = (entry / CODE % 256) as u8;
     if !field_types::good_length(code, a, b) {
         return refusal(21);
     }
@@ -116,15 +114,15 @@ fn add_column(size: u32, number: u64, a: u8, b: u8, sum: usize) -> Sum
 }
 
 // A row's count with one more group, by the construct type of the row's head. `start` tells whether the id is described.
-fn add_group(head: u8, start: u16, size: u32, number: u64, a: u8, b: u8, sum: usize) -> Sum
+fn add_group(head: u8, start: u16, size: u32, entry: u64, a: u8, b: u8, sum: usize) -> Sum
     requires { ⌜ sum ≤ 4096 ⌝ }
-    ensures { λ r. ⌜ AddedGroup (kindOf head) start size number a b sum r ⌝ }
+    ensures { λ r. ⌜ AddedGroup (kindOf head) start size entry a b sum r ⌝ }
 {
     if start == NOWHERE {
         return refusal(8);
     }
     if head == GDA {
-        return add_column(size, number, a, b, sum);
+        return add_column(size, entry, a, b, sum);
     }
     add_elements(size, a, b, sum)
 }

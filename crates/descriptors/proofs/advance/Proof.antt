@@ -1,5 +1,5 @@
 use mathlib.Core.Path.{refl}
-use Rattle.descriptors.proofs.Advancing.{held-agree, tables-agree, over-cpt, over-sda, over-rlo, over-gda, over-isd, over-other}
+use Rattle.descriptors.proofs.Advancing.{held-agree, tables-agree, over-cpt, over-sda, over-row, over-isd, over-other}
 use Rattle.descriptors.proofs.Moving.{torn-short, torn-past}
 use borrow.Author.Needs.{needs}
 use Rattle.descriptors.proofs.advance.Statement.{statement}
@@ -56,25 +56,18 @@ sda-step-requires c κs = search needs
 returns-4 : tie.Need-returns-4
 returns-4 c = search (over-sda)
 
+has-groups-requires : tie.Need-has-groups-requires
+has-groups-requires c κs = search needs
+
 row-step-requires : tie.Need-row-step-requires
 row-step-requires c κs =
-    let b = c .before .before .before .before .before .before .before .before .before in
-    let a = b .before .before .before in
-    let pre = a .before .before .before .before .before .pre in
-    tables-agree _ _ _ _ _ _ _ _ (pre .0) (pre .1) (a .before .before .wide .ensures .0) (a .before .if1 .left) (a .if2 .left) refl _ _ _ (c .before .before .before .before .before .close .ensures) (b .if3 .left)
-
-returns-5 : tie.Need-returns-5
-returns-5 c = search (over-rlo)
-
-row-step-requires-2 : tie.Need-row-step-requires-2
-row-step-requires-2 c κs =
     let b = c .before .before .before .before .before .before .before .before .before .before in
     let a = b .before .before .before in
     let pre = a .before .before .before .before .before .pre in
     tables-agree _ _ _ _ _ _ _ _ (pre .0) (pre .1) (a .before .before .wide .ensures .0) (a .before .if1 .left) (a .if2 .left) refl _ _ _ (c .before .before .before .before .before .before .close .ensures) (b .if3 .left)
 
-returns-6 : tie.Need-returns-6
-returns-6 c = search (over-gda)
+returns-5 : tie.Need-returns-5
+returns-5 c = search (over-row)
 
 judge-isd-requires : tie.Need-judge-isd-requires
 judge-isd-requires c κs = search needs
@@ -82,14 +75,14 @@ judge-isd-requires c κs = search needs
 bare-requires-3 : tie.Need-bare-requires-3
 bare-requires-3 c κs = search needs
 
-returns-7 : tie.Need-returns-7
-returns-7 c = search (over-isd)
+returns-6 : tie.Need-returns-6
+returns-6 c = search (over-isd)
 
 bare-requires-4 : tie.Need-bare-requires-4
 bare-requires-4 c κs = search needs
 
-returns-8 : tie.Need-returns-8
-returns-8 c = search (over-other)
+returns-7 : tie.Need-returns-7
+returns-7 c = search (over-other)
 
 pub advance-spec : {M : Type 1} → statement M
 advance-spec =
@@ -112,12 +105,11 @@ advance-spec =
     close-requires
     sda-step-requires
     returns-4
+    has-groups-requires
     row-step-requires
     returns-5
-    row-step-requires-2
-    returns-6
     judge-isd-requires
     bare-requires-3
-    returns-7
+    returns-6
     bare-requires-4
-    returns-8)
+    returns-7)

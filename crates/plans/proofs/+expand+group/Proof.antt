@@ -52,16 +52,16 @@ group-given t =
     (column-reads.Asked, column-reads.Learnt, expand-below t, expand.Post, copies-reads.Asked, copies-reads.Learnt, taken-count-reads.Asked, taken-count-reads.Learnt, fill-reads.Asked, fill-reads.Learnt)
 
 abbrev expand-Inv-loop : expand-lts.InvT-loop
-expand-Inv-loop desc starts sizes entries plan₀ p at kind a₀ g₀ end₀ plan a g end = Going desc starts p at kind plan₀ plan a g end
+expand-Inv-loop desc starts sizes entries plan₀ p at head a₀ g₀ end₀ plan a g end = Going desc starts p at head plan₀ plan a g end
 
 abbrev expand-μ-loop : expand-lts.MeasureT-loop
-expand-μ-loop desc starts sizes entries plan₀ p at kind a₀ g₀ end₀ plan a g end = length desc + 3 - g
+expand-μ-loop desc starts sizes entries plan₀ p at head a₀ g₀ end₀ plan a g end = length desc + 3 - g
 
-expand-add-kind : (t : ℕ) → expand-lts.Need-add-kind (expand-given t) (expand-at t) expand.Post expand-Inv-loop expand-μ-loop
-expand-add-kind t c = search needs
+expand-add-head : (t : ℕ) → expand-lts.Need-add-head (expand-given t) (expand-at t) expand.Post expand-Inv-loop expand-μ-loop
+expand-add-head t c = search needs
 
-expand-shared-slice-read-kind : (t : ℕ) → expand-lts.Need-shared-slice-read-kind (expand-given t) (expand-at t) expand.Post expand-Inv-loop expand-μ-loop
-expand-shared-slice-read-kind t c = search needs
+expand-shared-slice-read-head : (t : ℕ) → expand-lts.Need-shared-slice-read-head (expand-given t) (expand-at t) expand.Post expand-Inv-loop expand-μ-loop
+expand-shared-slice-read-head t c = search needs
 
 expand-add-g : (t : ℕ) → expand-lts.Need-add-g (expand-given t) (expand-at t) expand.Post expand-Inv-loop expand-μ-loop
 expand-add-g t c = search needs
@@ -195,8 +195,8 @@ pub +expand+group-spec : {M : Type 1} → statement M
     expand.Post
     expand-Inv-loop
     expand-μ-loop
-    (expand-add-kind t)
-    (expand-shared-slice-read-kind t)
+    (expand-add-head t)
+    (expand-shared-slice-read-head t)
     (expand-add-g t)
     (expand-shared-slice-read-end t)
     (expand-cast-end t)
