@@ -8,6 +8,7 @@ ghost use Rattle.sdas.specs.Tables.{Agreeing};
 ghost use Rattle.descriptors.specs.Holds.{withGroups, MakesSame, Held, ClosedRow, SteppedSDA, SteppedRow, SteppedCPT, Advanced, Bare, Examination};
 use fdoca::Checked;
 use plans::GDA;
+use triplets::RLO;
 
 // What the triplets so far have led to: a refusal's number, or the SDA, RLO or GDA that was described last, with its id (0 for none) and its
 // count, and its place. `head` is the construct type of an RLO or a GDA while a CPT may continue it, else 0.
@@ -29,8 +30,6 @@ pub struct Examined {
 
 // The construct types.
 const SDA: u8 = 0x70;
-
-const RLO: u8 = 0x71;
 
 const ISD: u8 = 0x7E;
 

@@ -10,9 +10,10 @@ use lib.ListN.{length, getD, drop, drop-of-length-le}
 use lib.Seq.{drop-cons}
 use borrow.Author.Tests.{eq-eqb, ne-eqb, leb-true, eqb-true}
 use Rattle.fdoca.specs.Basics.{lookup, _>>=_}
-use Rattle.fdoca.specs.Triplet.{threes, groupsOf}
+use Rattle.fdoca.specs.Triplet.{Group, threes, groupsOf}
 use Rattle.fdoca.specs.Check.{Entry, addGroup, addGroups, goodLengthRow}
 use Rattle.plans.specs.Tied.{kindOf}
+use Rattle.plans.proofs.Referred.{kind-row}
 use Rattle.triplets.specs.declared.Sum.{Sum}
 use Rattle.sdas.specs.Tables.{outcome, Agrees}
 use Rattle.triplets.specs.Judged.{groupOf, GoodRow, AddedGroup, AddedGroups}
@@ -91,3 +92,11 @@ module _ (head : ℕ) (t s z e : List ℕ) (sum : ℕ) where
           no-count = λ q. absurd (q (rw v));
           small = rw v (inv .small);
         }
+
+-- the groups by the construct type of the row's head
+module _ (head : ℕ) (gs : List Group) (s z e : List ℕ) (sum : ℕ) (r : Sum) where
+  pub columns-added : head ≡ 0x75 → AddedGroups (kindOf 0x75) gs s z e sum r → AddedGroups (kindOf head) gs s z e sum r
+  columns-added h x = rw h x
+
+  pub elements-added : (head ≡ 0x75 → ⊥) → AddedGroups (kindOf 0x71) gs s z e sum r → AddedGroups (kindOf head) gs s z e sum r
+  elements-added h x = rw (kind-row head h, ← kind-row 0x71 (λ q. omega arith)) x

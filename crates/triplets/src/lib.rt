@@ -13,6 +13,9 @@ use plans::GDA;
 use sdas::MOST;
 use sdas::NOWHERE;
 
+// The construct type of an RLO.
+pub const RLO: u8 = 0x71;
+
 // By what an entry is divided, so that the type code stands lowest.
 const CODE: u64 = 16777216;
 
@@ -180,7 +183,10 @@ pub fn judge_row(t: &[u8], starts: &[u16; 256], sizes: &[u32; 256], entries: &[u
     if starts[own] != NOWHERE {
         return refusal(7);
     }
-    add_groups(t, head, starts, sizes, entries, 0)
+    if head == GDA {
+        return add_groups(t, GDA, starts, sizes, entries, 0);
+    }
+    add_groups(t, RLO, starts, sizes, entries, 0)
 }
 
 // The count of a row of `sum` items with those of a CPT, or the number of its refusal. `head` is the construct type of the row's head.
@@ -201,7 +207,10 @@ pub fn judge_cpt(
     if t[2] != 0 {
         return refusal(6);
     }
-    add_groups(t, head, starts, sizes, entries, sum)
+    if head == GDA {
+        return add_groups(t, GDA, starts, sizes, entries, sum);
+    }
+    add_groups(t, RLO, starts, sizes, entries, sum)
 }
 
 // LENGTH of an ISD.

@@ -1,3 +1,4 @@
+use Rattle.triplets.proofs.Groups.{columns-added, elements-added}
 use Rattle.triplets.proofs.Judging.{row-has, cpt-bad-length, cpt-reserved, cpt-groups}
 use borrow.Author.Tests.{not-true, not-false}
 use Rattle.sdas.proofs.Outcomes.{is-true}
@@ -27,7 +28,13 @@ add-groups-requires : tie.Need-add-groups-requires
 add-groups-requires c κs = search (needs, is-true, not-false)
 
 returns-3 : tie.Need-returns-3
-returns-3 c = search (cpt-groups, not-false)
+returns-3 c = search (cpt-groups, columns-added, not-false)
+
+add-groups-requires-2 : tie.Need-add-groups-requires-2
+add-groups-requires-2 c κs = search (needs, is-true, not-false)
+
+returns-4 : tie.Need-returns-4
+returns-4 c = search (cpt-groups, elements-added, not-false)
 
 pub judge-cpt-spec : {M : Type 1} → statement M
 judge-cpt-spec =
@@ -40,4 +47,6 @@ judge-cpt-spec =
     refusal-requires-2
     returns-2
     add-groups-requires
-    returns-3)
+    returns-3
+    add-groups-requires-2
+    returns-4)

@@ -1,3 +1,4 @@
+use Rattle.triplets.proofs.Groups.{columns-added, elements-added}
 use Rattle.triplets.proofs.Judging.{row-has, row-bad-length, row-no-id, row-taken, row-groups}
 use borrow.Author.Tests.{not-true, not-false}
 use Rattle.sdas.proofs.Outcomes.{is-true}
@@ -48,7 +49,13 @@ add-groups-requires : tie.Need-add-groups-requires
 add-groups-requires c κs = search (needs, is-true, not-false)
 
 returns-4 : tie.Need-returns-4
-returns-4 c = search (row-groups, not-false)
+returns-4 c = search (row-groups, columns-added, not-false)
+
+add-groups-requires-2 : tie.Need-add-groups-requires-2
+add-groups-requires-2 c κs = search (needs, is-true, not-false)
+
+returns-5 : tie.Need-returns-5
+returns-5 c = search (row-groups, elements-added, not-false)
 
 pub judge-row-spec : {M : Type 1} → statement M
 judge-row-spec =
@@ -68,4 +75,6 @@ judge-row-spec =
     refusal-requires-3
     returns-3
     add-groups-requires
-    returns-4)
+    returns-4
+    add-groups-requires-2
+    returns-5)
