@@ -112,8 +112,8 @@ fn expand(
     }
 }
 
-// Writes the list of the group at g from `at` on, and gives the place behind it. `head` is the construct type of the row's head. A row that it refers to is written by
-// going down to it once; its repetitions are copies.
+// Writes the list of the group at g from `at` on, and gives the place behind it. `head` is the construct type of the row's head. A row that
+// the group refers to is written by going down to it once; its repetitions are copies.
 fn group(
     desc: &[u8],
     starts: &[u16; 256],

@@ -130,7 +130,8 @@ fn add_group(head: u8, start: u16, size: u32, entry: u64, a: u8, b: u8, sum: usi
     add_elements(size, a, b, sum)
 }
 
-// A row's count with the groups of a triplet of it, or the number of the first refusal among them.
+// A row's count with the groups of a triplet of it, or the number of the first refusal among them. Who calls it gives `head` as a constant, so
+// that the compiler can make a loop for each kind.
 fn add_groups(
     t: &[u8],
     head: u8,
