@@ -29,13 +29,13 @@ use Rattle.fdoca.proofs.ItemTests.{Earliest}
 use Rattle.fdoca.proofs.ItemRows.{item-no-reason, item-first-reason}
 
 -- two ways to take a list apart at an element
-same-place : {A : Type 0} (b c : List A) (x y : A) (d e : List A) → b ++ (x ∷ d) ≡ c ++ (y ∷ e) → length b ≡ length c → (b ≡ c) × (x ≡ y)
+pub same-place : {A : Type 0} (b c : List A) (x y : A) (d e : List A) → b ++ (x ∷ d) ≡ c ++ (y ∷ e) → length b ≡ length c → (b ≡ c) × (x ≡ y)
 same-place b c x y d e h n =
     let k : b ≡ c = sym (take-at b (x ∷ d) (length c) n) ∙ ap (take (length c)) h ∙ take-at c (y ∷ e) (length c) refl in
     let l : x ∷ d ≡ y ∷ e = sym (drop-at b (x ∷ d) (length c) n) ∙ ap (drop (length c)) h ∙ drop-at c (y ∷ e) (length c) refl in
     (k, cc)
 
-earlier-place : {A : Type 0} (b c : List A) (x y : A) (d e : List A) → b ++ (x ∷ d) ≡ c ++ (y ∷ e) → length b < length c
+pub earlier-place : {A : Type 0} (b c : List A) (x y : A) (d e : List A) → b ++ (x ∷ d) ≡ c ++ (y ∷ e) → length b < length c
     → (more : List A) × (c ≡ b ++ (x ∷ more))
 earlier-place [] [] x y d e h n = absurd (let z : ⊥ = omega arith in z)
 earlier-place [] (a ∷ c) x y d e h n = (c, cc)
@@ -46,7 +46,7 @@ earlier-place (a ∷ b) (a′ ∷ c) x y d e h n =
     (q .0, cc)
 
 -- An item starts where the cut of the fields before it ends,
-starts-of : (fs : List Field) (s : List ℕ) (before : List Field) (f : Field) (after : List Field) (c : Cut) → fs ≡ before ++ (f ∷ after)
+pub starts-of : (fs : List Field) (s : List ℕ) (before : List Field) (f : Field) (after : List Field) (c : Cut) → fs ≡ before ++ (f ∷ after)
     → cutFrom 0 before s ≡ ok c → StartsAt fs s (length before) f (c .end) (c .rest)
 starts-of fs s before f after c h e =
     let k = cut-parts 0 before s c e in
@@ -63,24 +63,24 @@ starts-of fs s before f after c h e =
     }
 
 -- and the fields of items are cut down to the bytes behind these.
-abbrev cutOf : List Field → List Parts → (end : ℕ) → (rest : List ℕ) → Cut
+abbrev pub cutOf : List Field → List Parts → (end : ℕ) → (rest : List ℕ) → Cut
 cutOf fs xs q rest = record { notes = notesOf 0 fs xs; end = q; rest = rest }
 
-cut-to : {fs : List Field} {s : List ℕ} {xs : List Parts} {bytes rest : List ℕ} {q : ℕ} → Block fs xs bytes → s ≡ bytes ++ rest → length bytes ≡ q
+pub cut-to : {fs : List Field} {s : List ℕ} {xs : List Parts} {bytes rest : List ℕ} {q : ℕ} → Block fs xs bytes → s ≡ bytes ++ rest → length bytes ≡ q
     → cutFrom 0 fs s ≡ ok (cutOf fs xs q rest)
 cut-to {fs} {s} {xs} {bytes} {rest} {q} b h e =
     let n : 0 + length bytes ≡ q = omega arith in
     rw h (rw n at (cut-block 0 fs xs bytes rest b))
 
-same-ok : {A : Type 0} {r : Result A} {a b : A} → r ≡ ok a → r ≡ ok b → a ≡ b
+pub same-ok : {A : Type 0} {r : Result A} {a b : A} → r ≡ ok a → r ≡ ok b → a ≡ b
 same-ok h k = cc
 
-cut-there : {fs : List Field} {s : List ℕ} {xs : List Parts} {bytes rest : List ℕ} → Block fs xs bytes → s ≡ bytes ++ rest
+pub cut-there : {fs : List Field} {s : List ℕ} {xs : List Parts} {bytes rest : List ℕ} → Block fs xs bytes → s ≡ bytes ++ rest
     → (c : Cut) → cutFrom 0 fs s ≡ ok c → (c .end ≡ length bytes) × (c .rest ≡ rest)
 cut-there b h c e = let d = same-ok e (cut-to b h refl) in (ap (λ c. c .end) d, ap (λ c. c .rest) d)
 
 -- what was noted is an item
-noted-as : (f : Field) (q : ℕ) (y : Measured) (n : Note) → noteOf f q y ≡ ok n
+pub noted-as : (f : Field) (q : ℕ) (y : Measured) (n : Note) → noteOf f q y ≡ ok n
     → (z : Bool) × (p : ℕ) × (v : ℕ) × (r : ℕ) × (y ≡ item z p v r) × (n .field ≡ f) × (n .start ≡ q)
 unfolding noteOf
 noted-as f q (refused m) n e = absurd (let z : _≡_ {A = ℕ} 0 1 = cc in let w : ⊥ = omega arith in w)
@@ -121,7 +121,7 @@ module _ {fs : List Field} {s : List ℕ} {k q : ℕ} {f : Field} {rest : List �
   field-good g = good-at (x .before) f (x .after) (rw (x .fields) at g)
 
   -- and then it is an item, against which there is no reason.
-  none-against : AllGood fs → (more : List Field) (c : Cut) → cutFrom 0 (x .before ++ (f ∷ more)) s ≡ ok c → (step m : ℕ) → OfItem f rest step m → ⊥
+  pub none-against : AllGood fs → (more : List Field) (c : Cut) → cutFrom 0 (x .before ++ (f ∷ more)) s ≡ ok c → (step m : ℕ) → OfItem f rest step m → ⊥
   none-against g more c e =
       let n : Noted (found .notes) c = ok-of (rw e at (cut-with more)) in
       let (z, p, v, r, h, _, _) = noted-as f q (measure f rest) (n .note) (n .noted) in
@@ -131,7 +131,7 @@ module _ {fs : List Field} {s : List ℕ} {k q : ℕ} {f : Field} {rest : List �
   all-cut c e = sym (ap (λ l. cutFrom 0 l s) (x .fields)) ∙ e
 
 -- what the walk accepts is cut, with nothing behind it
-walk-cut : (fs : List Field) (s : List ℕ) (ns : List Note) → walk fs s ≡ ok ns
+pub walk-cut : (fs : List Field) (s : List ℕ) (ns : List Note) → walk fs s ≡ ok ns
     → (c : Cut) × (cutFrom 0 fs s ≡ ok c) × (length (c .rest) ≤ 0) × (c .notes ≡ ns)
 unfolding walk
 walk-cut fs s ns e =
@@ -159,22 +159,22 @@ module _ (fs : List Field) (s : List ℕ) (g : AllGood fs) where
       later (surplus rest b l n) = inr (refl, refl, sym (cut-there b l c h .0))
 
   module _ {m p : ℕ} (h : StopsAt 0 fs s m p) where
-    start : StartsAt fs s (length (h .before)) (h .field) (h .good .end) (h .good .rest)
+    pub start : StartsAt fs s (length (h .before)) (h .field) (h .good .end) (h .good .rest)
     start = starts-of fs s (h .before) (h .field) (h .after) (h .good) (h .fields) (h .cut)
 
-    earliest : Earliest (OfItem (h .field) (h .good .rest)) m
+    pub earliest : Earliest (OfItem (h .field) (h .good .rest)) m
     earliest =
         let k : GoodField (h .field) = field-good start g in
         item-first-reason (h .field) (k .typed) (mode-known k) (h .good .rest) m (h .reason)
 
-    abbrev turn : List ℕ
+    abbrev pub turn : List ℕ
     turn = 5 ∷ length (h .before) ∷ earliest .step ∷ []
 
-    abbrev Later : List ℕ → ℕ → ℕ → Type 0
+    abbrev pub Later : List ℕ → ℕ → ℕ → Type 0
     Later t n q = Earlier turn t ⊎ ((t ≡ turn) × (n ≡ m) × (q ≡ p))
 
     -- no item before has a reason; of the same one it comes later, or is the same
-    item-later : {k i n q : ℕ} {f : Field} {rest : List ℕ} → StartsAt fs s k f q rest → OfItem f rest i n
+    pub item-later : {k i n q : ℕ} {f : Field} {rest : List ℕ} → StartsAt fs s k f q rest → OfItem f rest i n
         → Later (5 ∷ k ∷ i ∷ []) n q
     item-later {k} {i} {n} {q} {f} {rest} x r = go (ltb k (length (h .before))) refl
       where
@@ -231,7 +231,7 @@ nth-at : {A : Type 0} (l : List A) (a : A) (m : List A) → getElem? (l ++ (a �
 nth-at [] a m = refl
 nth-at (x ∷ l) a m = nth-at l a m
 
-notes-number : {fs : List Field} {xs : List Parts} {s : List ℕ} (p : ℕ) → Block fs xs s → length (notesOf p fs xs) ≡ length fs
+pub notes-number : {fs : List Field} {xs : List Parts} {s : List ℕ} (p : ℕ) → Block fs xs s → length (notesOf p fs xs) ≡ length fs
 notes-number p done = refl
 notes-number p (next {f = f} x i b) = ap suc (notes-number (p + itemLength (noteOfParts p f x)) b)
 

@@ -2,34 +2,34 @@
 -- Assumes nothing.
 use mathlib.Core.Path.{_≡_, refl, sym, ap, _∙_}
 use mathlib.Core.Logic.{_⊎_, inl, inr}
-use Prim.Native.Nat.{ℕ, _+_, _*_, _≤_, _<_}
+use Prim.Native.Nat.{ℕ, suc, _+_, _*_, _≤_, _<_}
 use native.Mathlib.Omega.{arith}
+use mathlib.Core.Bool.{true, false, _&&_, not, true≢false}
 use mathlib.Core.List.{List, [], _∷_, reverse}
 use mathlib.Core.Option.{Option, none, some}
-use lib.Dec.{ltb}
 use lib.IntN.{ℤ, pos}
-use lib.ListN.{length, getElem?, length-map}
+use lib.ListN.{length, getElem?}
 use borrow.Author.Tests.{ltb-true, ltb-false}
-use Rattle.fdoca.specs.Basics.{if_then_else_, Result, refuse, ok, _>>=_, _>>_, reject, the}
+use Rattle.fdoca.specs.Basics.{if_then_else_, isSome, Result, refuse, ok, _>>=_, _>>_, reject, the}
 use Rattle.fdoca.specs.FieldType.{FieldType, fixedBytes, variableBytes, terminatedBytes, shortBytes, integer, reversedInteger, packedDecimal, hexFloat, reversedFloat, binaryFloat, typeOf}
 use Rattle.fdoca.specs.Item.{Field}
-use Rattle.fdoca.specs.Walk.{Note, walk}
+use Rattle.fdoca.specs.Walk.{Note, walkBy}
 use Rattle.fdoca.specs.Check.{maxDescriptor, check}
-use Rattle.fdoca.specs.Unfolding.{unfolded}
-use Rattle.fdoca.specs.Calls.{maxData, oversize, itemList, list, itemAt, valueOf, wholeOf, signed, wholeNumber}
+use Rattle.fdoca.specs.Unfolding.{unfolded, repeated}
+use Rattle.fdoca.specs.Calls.{maxData, oversize, itemList, small, list, itemAt, valueOf, wholeOf, signed, wholeNumber}
 use Rattle.fdoca.specs.Reasons as R
-use Rattle.fdoca.specs.Reasons.{here, there, HasType, StartsAt, OfItems, item, surplus, OfDescriptor, nothing-described, OfBlock, descriptor, items, OfList, small-list, OfState, no-such-item, OfWholeNumber, state, wrong-kind, Earlier, First}
+use Rattle.fdoca.specs.Reasons.{here, HasType, StartsAt, OfItems, item, surplus, Uses, Unfolds, OfDescriptor, nothing-described, OfData, items, OfBlock, descriptor, data-of, OfList, small-list, small-for-rows, OfState, no-such-item, not-in-rows, OfWholeNumber, state, wrong-kind, Earlier, First}
 use Rattle.fdoca.proofs.Results.{ok-bind, ok-reject}
 use Rattle.fdoca.proofs.Tests.{either-over, neither-over}
 use Rattle.fdoca.proofs.Table.{not-there, is-there}
-use Rattle.fdoca.proofs.Cover.{walk-covers}
 use Rattle.fdoca.proofs.Count.{count-is-length}
-use Rattle.fdoca.proofs.Fields.{fields-good, item-good}
+use Rattle.fdoca.proofs.Fields.{item-good}
 use Rattle.fdoca.proofs.TypeRows.{plainCode, type-plain}
 use Rattle.fdoca.proofs.ItemRows.{has-plain, type-is}
-use Rattle.fdoca.proofs.FirstReasons.{Told, refused, accepted, Either, Once, once, Precedes, told-as, told-then, reject-told, the-told}
+use Rattle.fdoca.proofs.FirstReasons.{Told, refused, accepted, Either, Once, once, Precedes, told-as, told-then, told-tested, reject-told, the-told}
 use Rattle.fdoca.proofs.CheckRows.{check-told}
-use Rattle.fdoca.proofs.BlockRows.{items-first, items-none, starts-unique, item-starts}
+use Rattle.fdoca.proofs.BlockRows.{starts-unique, item-starts}
+use Rattle.fdoca.proofs.Data.{item-count, data-told, WalkedBy, walked-by}
 
 -- Over a limit: turn 1.
 abbrev pub Sizes : (d s : List ℕ) → List ℕ → ℕ → ℕ → Type 0
@@ -38,14 +38,6 @@ Sizes d s = Once ((4096 < length d) ⊎ (32768 < length s)) (1 ∷ []) 1 0
 sizes-told : (d s : List ℕ) → Told (Sizes d s) (reject (oversize d s) 1 0)
 sizes-told d s =
     reject-told (oversize d s) 1 0 (either-over maxDescriptor (length d) maxData (length s)) (neither-over maxDescriptor (length d) maxData (length s))
-
--- the items of an accepted descriptor
-pub items-told : (d s : List ℕ) (n : ℕ) → check d ≡ ok n → Told (OfItems (unfolded d) s) (walk (unfolded d) s)
-items-told d s n e = go (walk (unfolded d) s) refl
-  where
-    go : (w : Result (List Note)) → walk (unfolded d) s ≡ w → Told (OfItems (unfolded d) s) w
-    go (refuse m p) h = refused (items-first (unfolded d) s m p (fields-good d n e) h)
-    go (ok ns) h = accepted (items-none (unfolded d) s ns (fields-good d n e) h)
 
 -- a turn by its first number
 pub record From (a b : ℕ) (t : List ℕ) : Type 0 where
@@ -67,16 +59,22 @@ before-from x y h = let l : x .head < y .head = omega (arith, x .high, y .low) i
 pub descriptor-from : {d t : List ℕ} {m p : ℕ} → OfDescriptor d t m p → From 1 3 t
 descriptor-from (OfDescriptor.oversize h) = from 1 3 1 [] (omega arith) (omega arith)
 descriptor-from (R.triplet {j = j} {g = g} {step = v} h r) = from 1 3 2 (j ∷ g ∷ v ∷ []) (omega arith) (omega arith)
+descriptor-from (R.endless {j = j} {k = k} h r) = from 1 3 2 (j ∷ suc k ∷ 10 ∷ []) (omega arith) (omega arith)
 descriptor-from (nothing-described h) = from 1 3 3 [] (omega arith) (omega arith)
 
 pub items-from : {fs : List Field} {s t : List ℕ} {m p : ℕ} → OfItems fs s t m p → From 5 6 t
 items-from (item {k = k} {step = i} x r) = from 5 6 5 (k ∷ i ∷ []) (omega arith) (omega arith)
 items-from (surplus r b e l) = from 5 6 6 [] (omega arith) (omega arith)
 
+pub data-from : {d s t : List ℕ} {m p : ℕ} → OfData d s t m p → From 5 6 t
+data-from (items e r) = items-from r
+data-from (R.rows e (R.OfRows.item {k = k} {step = i} j x c l r)) = from 5 6 5 (k ∷ i ∷ []) (omega arith) (omega arith)
+data-from (R.rows e (R.too-many j x c)) = from 5 6 5 (4096 ∷ 0 ∷ []) (omega arith) (omega arith)
+
 pub block-from : {d s t : List ℕ} {m p : ℕ} → OfBlock d s t m p → From 1 6 t
 block-from (descriptor r) = wider 1 6 (omega arith) (omega arith) (descriptor-from r)
 block-from (OfBlock.oversize h) = from 1 6 1 [] (omega arith) (omega arith)
-block-from (items r) = wider 1 6 (omega arith) (omega arith) (items-from r)
+block-from (data-of r) = wider 1 6 (omega arith) (omega arith) (data-from r)
 
 -- which reasons come first
 pub precedes-either : {P Q S : List ℕ → ℕ → ℕ → Type 0} → Precedes P Q → Precedes P S → Precedes P (Either Q S)
@@ -93,6 +91,7 @@ once-from {P} {h} {m} {p} {l} t n q (once x) = from h h h l (omega arith) (omega
 sizes-precede : (d s : List ℕ) → Precedes (Sizes d s) (OfDescriptor d)
 sizes-precede d s t u m p n q (once x) (OfDescriptor.oversize y) = inr (refl, refl, refl)
 sizes-precede d s t u m p n q (once x) (R.triplet y z) = inl (R.Earlier.here {a = 1} {b = 2} (omega arith))
+sizes-precede d s t u m p n q (once x) (R.endless y z) = inl (R.Earlier.here {a = 1} {b = 2} (omega arith))
 sizes-precede d s t u m p n q (once x) (nothing-described y) = inl (R.Earlier.here {a = 1} {b = 3} (omega arith))
 
 -- one result behind another
@@ -107,6 +106,10 @@ pub told-made : {A B : Type 0} {P : List ℕ → ℕ → ℕ → Type 0} (x : Re
 told-made x f (refused h) = refused h
 told-made x f (accepted h) = accepted h
 
+pub told-before : {A B : Type 0} {P : List ℕ → ℕ → ℕ → Type 0} (x : Result A) (b : B) → Told P x → Told P (x >> ok b)
+told-before x b (refused h) = refused h
+told-before x b (accepted h) = accepted h
+
 -- The descriptor, then what comes behind it of an accepted one.
 pub described-then : {A : Type 0} {Q : List ℕ → ℕ → ℕ → Type 0} (d s : List ℕ) (f : ℕ → Result A) → ((t : List ℕ) (m p : ℕ) → Q t m p → From 4 8 t)
     → ((n : ℕ) → check d ≡ ok n → Told Q (f n)) → Told (Either (Sizes d s) (Either (OfDescriptor d) Q)) (reject (oversize d s) 1 0 >> (check d >>= f))
@@ -114,100 +117,153 @@ described-then d s f late next =
     told-after (reject (oversize d s) 1 0) (check d >>= f) (precedes-either (sizes-precede d s) (by-turns 1 1 4 8 (omega arith) once-from late))
     (sizes-told d s) (told-then (check d) f (by-turns 1 3 4 8 (omega arith) (λ t m p x. descriptor-from x) late) (check-told d) next)
 
-pub late-items : {fs : List Field} {s : List ℕ} (t : List ℕ) (m p : ℕ) → OfItems fs s t m p → From 4 8 t
-late-items t m p x = wider 4 8 (omega arith) (omega arith) (items-from x)
+pub late-data : {d s : List ℕ} (t : List ℕ) (m p : ℕ) → OfData d s t m p → From 4 8 t
+late-data t m p x = wider 4 8 (omega arith) (omega arith) (data-from x)
 
 late-either : {P Q : List ℕ → ℕ → ℕ → Type 0} → ((t : List ℕ) (m p : ℕ) → P t m p → From 4 8 t) → ((t : List ℕ) (m p : ℕ) → Q t m p → From 4 8 t)
     → (t : List ℕ) (m p : ℕ) → Either P Q t m p → From 4 8 t
 late-either f g t m p (inl x) = f t m p x
 late-either f g t m p (inr x) = g t m p x
 
--- THE LIST CALL
+-- THE LIST CALL: 12 before the items, or with rows to the end after them
 abbrev Small : (d old : List ℕ) → List ℕ → ℕ → ℕ → Type 0
-Small d old = Once (length old < 2 + 2 * length (unfolded d)) (4 ∷ []) 12 0
+Small d old = Once ((repeated d ≡ none) × (length old < 2 + 2 * length (unfolded d))) (4 ∷ []) 12 0
+
+record SmallFor (d s old : List ℕ) : Type 0 where
+  layout : List Field
+  count : ℕ
+  repeats : repeated d ≡ some layout
+  uses : Uses (unfolded d) layout s count
+  small-is : length old < 2 + 2 * count
+
+abbrev SmallRows : (d s old : List ℕ) → List ℕ → ℕ → ℕ → Type 0
+SmallRows d s old = Once (SmallFor d s old) (7 ∷ []) 12 0
 
 module _ (d s old : List ℕ) where
   abbrev ForList : List ℕ → ℕ → ℕ → Type 0
-  ForList = Either (Sizes d s) (Either (OfDescriptor d) (Either (Small d old) (OfItems (unfolded d) s)))
+  ForList = Either (Sizes d s) (Either (OfDescriptor d) (Either (Small d old) (Either (OfData d s) (SmallRows d s old))))
 
   to-list : (t : List ℕ) (m p : ℕ) → ForList t m p → OfList d s (length old) t m p
   to-list t m p (inl (once (inl h))) = OfList.block (descriptor (OfDescriptor.oversize h))
   to-list t m p (inl (once (inr h))) = OfList.block (OfBlock.oversize h)
   to-list t m p (inr (inl r)) = OfList.block (descriptor r)
-  to-list t m p (inr (inr (inl (once h)))) = small-list h
-  to-list t m p (inr (inr (inr r))) = OfList.block (items r)
+  to-list t m p (inr (inr (inl (once h)))) = small-list (h .0) (h .1)
+  to-list t m p (inr (inr (inr (inl r)))) = OfList.block (data-of r)
+  to-list t m p (inr (inr (inr (inr (once h))))) = small-for-rows (h .repeats) (h .uses) (h .small-is)
 
   of-list : (t : List ℕ) (m p : ℕ) → OfList d s (length old) t m p → ForList t m p
   of-list t m p (OfList.block (descriptor r)) = inr (inl r)
   of-list t m p (OfList.block (OfBlock.oversize h)) = inl (once (inr h))
-  of-list t m p (OfList.block (items r)) = inr (inr (inr r))
-  of-list t m p (small-list h) = inr (inr (inl (once h)))
+  of-list t m p (OfList.block (data-of r)) = inr (inr (inr (inl r)))
+  of-list t m p (small-list e h) = inr (inr (inl (once (e, h))))
+  of-list t m p (small-for-rows {rows = layout} {n = n} e u h) = inr (inr (inr (inr (once (record { layout = layout; count = n; repeats = e; uses = u; small-is = h })))))
 
-  small-told : (n : ℕ) → check d ≡ ok n → Told (Small d old) (reject (ltb (length old) (2 + 2 * n)) 12 0)
-  small-told n e =
-      let c : length (unfolded d) ≡ n = count-is-length d n e in
-      reject-told (ltb (length old) (2 + 2 * n)) 12 0 (λ h. omega (arith, ltb-true (length old) (2 + 2 * n) h)) (λ h x. (let z : ⊥ = omega (arith, ltb-false (length old) (2 + 2 * n) h) in z))
+  module _ (n : ℕ) (e : check d ≡ ok n) where
+    counted : length (unfolded d) ≡ n
+    counted = count-is-length d n e
+
+    small-yes : (o : Option (List Field)) → repeated d ≡ o → (not (isSome o) && small (length old) n) ≡ true → (repeated d ≡ none) × (length old < 2 + 2 * length (unfolded d))
+    small-yes none r h = (r, omega (arith, ltb-true (length old) (2 + 2 * n) h, counted))
+    small-yes (some layout) r h = absurd (true≢false (sym h))
+
+    small-no : (not (isSome (repeated d)) && small (length old) n) ≡ false → (repeated d ≡ none) × (length old < 2 + 2 * length (unfolded d)) → ⊥
+    small-no h (r, l) = let z : ⊥ = omega (arith, ltb-false (length old) (2 + 2 * n) (rw r at h), counted) in z
+
+    -- behind the items
+    rows-small : (ns : List Note) → walkBy (unfolded d) (repeated d) s ≡ ok ns → (not (isSome (repeated d)) && small (length old) n) ≡ false
+        → Told (SmallRows d s old) (reject (small (length old) (length ns)) 12 0)
+    rows-small ns w h =
+        let x = walked-by d n e s ns w in
+        reject-told (small (length old) (length ns)) 12 0 (λ l. yes x (repeated d) refl (ltb-true (length old) (2 + 2 * length ns) l))
+        (λ l y. (let z : ⊥ = omega (arith, ltb-false (length old) (2 + 2 * length ns) l, x .used (y .layout) (y .count) (y .repeats) (y .uses), y .small-is) in z))
+      where
+        yes : WalkedBy d n e s ns → (o : Option (List Field)) → repeated d ≡ o → length old < 2 + 2 * length ns → SmallFor d s old
+        yes x none r l =
+            absurd (let z : ⊥ = omega (arith, ltb-false (length old) (2 + 2 * n) (rw r at h), item-count (x .fields) s ns (x .walks), ap length (x .plain r), counted) in z)
+        yes x (some layout) r l = record { layout = layout; count = length ns; repeats = r; uses = x .uses layout r; small-is = l }
 
   pub list-told : Told (OfList d s (length old)) (list d s old)
   unfolding list
   list-told =
       told-as to-list of-list
-      (described-then d s (λ n. reject (ltb (length old) (2 + 2 * n)) 12 0 >> (walk (unfolded d) s >>= (λ ns. ok (itemList n (length s) ns old))))
-      (late-either (λ t m p x. wider 4 8 (omega arith) (omega arith) (once-from t m p x)) late-items)
-      (λ n e. told-after (reject (ltb (length old) (2 + 2 * n)) 12 0) (walk (unfolded d) s >>= (λ ns. ok (itemList n (length s) ns old)))
-      (by-turns 4 4 5 6 (omega arith) once-from (λ t m p x. items-from x)) (small-told n e)
-      (told-made (walk (unfolded d) s) (λ ns. itemList n (length s) ns old) (items-told d s n e))))
+      (described-then d s
+      (λ n. reject (not (isSome (repeated d)) && small (length old) n) 12 0
+      >> (walkBy (unfolded d) (repeated d) s >>= (λ ns. reject (small (length old) (length ns)) 12 0 >> ok (itemList (length ns) (length s) ns old))))
+      (late-either (λ t m p x. wider 4 8 (omega arith) (omega arith) (once-from t m p x)) (late-either late-data (λ t m p x. wider 4 8 (omega arith) (omega arith) (once-from t m p x))))
+      (λ n e. told-tested (not (isSome (repeated d)) && small (length old) n) 12 0
+      (precedes-either (by-turns 4 4 5 6 (omega arith) once-from (λ t m p x. data-from x)) (by-turns 4 4 7 7 (omega arith) once-from once-from))
+      (small-yes n e (repeated d) refl) (small-no n e)
+      (λ h. told-then (walkBy (unfolded d) (repeated d) s) (λ ns. reject (small (length old) (length ns)) 12 0 >> ok (itemList (length ns) (length s) ns old))
+      (by-turns 5 6 7 7 (omega arith) (λ t m p x. data-from x) once-from) (data-told d n e s)
+      (λ ns w. told-before (reject (small (length old) (length ns)) 12 0) (itemList (length ns) (length s) ns old) (rows-small n e ns w h)))))
 
 -- THE STATE CALL, and lending
-abbrev NoItem : (d : List ℕ) (k : ℕ) → List ℕ → ℕ → ℕ → Type 0
-NoItem d k = Once (length (unfolded d) ≤ k) (7 ∷ []) 17 0
+record None17 (d s : List ℕ) (k : ℕ) : Type 0 where
+  layout : List Field
+  count : ℕ
+  repeats : repeated d ≡ some layout
+  uses : Uses (unfolded d) layout s count
+  past : count ≤ k
+
+abbrev NoItem : (d s : List ℕ) (k : ℕ) → List ℕ → ℕ → ℕ → Type 0
+NoItem d s k = Once (((repeated d ≡ none) × (length (unfolded d) ≤ k)) ⊎ None17 d s k) (7 ∷ []) 17 0
 
 module _ (d s : List ℕ) (k : ℕ) where
   abbrev ForState : List ℕ → ℕ → ℕ → Type 0
-  ForState = Either (Sizes d s) (Either (OfDescriptor d) (Either (OfItems (unfolded d) s) (NoItem d k)))
+  ForState = Either (Sizes d s) (Either (OfDescriptor d) (Either (OfData d s) (NoItem d s k)))
 
   to-state : (t : List ℕ) (m p : ℕ) → ForState t m p → OfState d s k t m p
   to-state t m p (inl (once (inl h))) = OfState.block (descriptor (OfDescriptor.oversize h))
   to-state t m p (inl (once (inr h))) = OfState.block (OfBlock.oversize h)
   to-state t m p (inr (inl r)) = OfState.block (descriptor r)
-  to-state t m p (inr (inr (inl r))) = OfState.block (items r)
-  to-state t m p (inr (inr (inr (once h)))) = no-such-item h
+  to-state t m p (inr (inr (inl r))) = OfState.block (data-of r)
+  to-state t m p (inr (inr (inr (once (inl h))))) = no-such-item (h .0) (h .1)
+  to-state t m p (inr (inr (inr (once (inr h))))) = not-in-rows (h .repeats) (h .uses) (h .past)
 
   of-state : (t : List ℕ) (m p : ℕ) → OfState d s k t m p → ForState t m p
   of-state t m p (OfState.block (descriptor r)) = inr (inl r)
   of-state t m p (OfState.block (OfBlock.oversize h)) = inl (once (inr h))
-  of-state t m p (OfState.block (items r)) = inr (inr (inl r))
-  of-state t m p (no-such-item h) = inr (inr (inr (once h)))
+  of-state t m p (OfState.block (data-of r)) = inr (inr (inl r))
+  of-state t m p (no-such-item e h) = inr (inr (inr (once (inl (e, h)))))
+  of-state t m p (not-in-rows {rows = layout} {n = n} e u h) = inr (inr (inr (once (inr (record { layout = layout; count = n; repeats = e; uses = u; past = h })))))
 
-  nth-told : (ns : List Note) → walk (unfolded d) s ≡ ok ns → Told (NoItem d k) (the (getElem? ns k) 17 0)
-  nth-told ns e =
-      let l : length ns ≡ length (unfolded d) = sym (length-map ns (λ i. i .field)) ∙ ap length (walk-covers (unfolded d) s ns e .fields) in
-      the-told (getElem? ns k) 17 0 (λ h. omega (arith, not-there ns k h)) (λ i h x. (let z : ⊥ = omega (arith, is-there ns k i h) in z))
+  nth-told : (n : ℕ) (e : check d ≡ ok n) (ns : List Note) → walkBy (unfolded d) (repeated d) s ≡ ok ns → Told (NoItem d s k) (the (getElem? ns k) 17 0)
+  nth-told n e ns w =
+      let x = walked-by d n e s ns w in
+      the-told (getElem? ns k) 17 0 (λ h. past x (repeated d) refl (omega (arith, not-there ns k h))) (λ i h y. among x (is-there ns k i h) y)
+    where
+      past : WalkedBy d n e s ns → (o : Option (List Field)) → repeated d ≡ o → length ns ≤ k → ((repeated d ≡ none) × (length (unfolded d) ≤ k)) ⊎ None17 d s k
+      past x none r l = inl (r, omega (arith, item-count (x .fields) s ns (x .walks), ap length (x .plain r)))
+      past x (some layout) r l = inr (record { layout = layout; count = length ns; repeats = r; uses = x .uses layout r; past = l })
+
+      among : WalkedBy d n e s ns → k < length ns → ((repeated d ≡ none) × (length (unfolded d) ≤ k)) ⊎ None17 d s k → ⊥
+      among x l (inl (r, h)) = let z : ⊥ = omega (arith, item-count (x .fields) s ns (x .walks), ap length (x .plain r)) in z
+      among x l (inr y) = let z : ⊥ = omega (arith, x .used (y .layout) (y .count) (y .repeats) (y .uses), y .past) in z
 
   pub state-told : Told (OfState d s k) (itemAt d s k)
   unfolding itemAt
   state-told =
       told-as to-state of-state
-      (described-then d s (λ n. walk (unfolded d) s >>= (λ ns. the (getElem? ns k) 17 0))
-      (late-either late-items (λ t m p x. wider 4 8 (omega arith) (omega arith) (once-from t m p x)))
-      (λ n e. told-then (walk (unfolded d) s) (λ ns. the (getElem? ns k) 17 0) (by-turns 5 6 7 7 (omega arith) (λ t m p x. items-from x) once-from) (items-told d s n e)
-      (λ ns h. nth-told ns h)))
+      (described-then d s (λ n. walkBy (unfolded d) (repeated d) s >>= (λ ns. the (getElem? ns k) 17 0))
+      (late-either late-data (λ t m p x. wider 4 8 (omega arith) (omega arith) (once-from t m p x)))
+      (λ n e. told-then (walkBy (unfolded d) (repeated d) s) (λ ns. the (getElem? ns k) 17 0) (by-turns 5 6 7 7 (omega arith) (λ t m p x. data-from x) once-from) (data-told d n e s)
+      (λ ns h. nth-told n e ns h)))
 
 -- what an item that is found tells of the descriptor and the block
 pub record FoundIn (d s : List ℕ) (k : ℕ) (i : Note) : Type 0 where
   pub count : ℕ
   pub notes : List Note
   pub checks : check d ≡ ok count
-  pub walks : walk (unfolded d) s ≡ ok notes
+  pub walked : WalkedBy d count checks s notes
   pub is-item : getElem? notes k ≡ some i
 
 pub found-in : (d s : List ℕ) (k : ℕ) (i : Note) → itemAt d s k ≡ ok i → FoundIn d s k i
 unfolding itemAt
 found-in d s k i e =
-    let (_, a) = ok-reject (oversize d s) 1 0 (check d >>= (λ n. walk (unfolded d) s >>= (λ ns. the (getElem? ns k) 17 0))) i e in
-    let (n, c, b) = ok-bind (check d) (λ n. walk (unfolded d) s >>= (λ ns. the (getElem? ns k) 17 0)) i a in
-    let (ns, w, t) = ok-bind (walk (unfolded d) s) (λ ns. the (getElem? ns k) 17 0) i b in
-    record { count = n; notes = ns; checks = c; walks = w; is-item = of (getElem? ns k) t }
+    let (_, a) = ok-reject (oversize d s) 1 0 (check d >>= (λ n. walkBy (unfolded d) (repeated d) s >>= (λ ns. the (getElem? ns k) 17 0))) i e in
+    let (n, c, b) = ok-bind (check d) (λ n. walkBy (unfolded d) (repeated d) s >>= (λ ns. the (getElem? ns k) 17 0)) i a in
+    let (ns, w, t) = ok-bind (walkBy (unfolded d) (repeated d) s) (λ ns. the (getElem? ns k) 17 0) i b in
+    record { count = n; notes = ns; checks = c; walked = walked-by d n c s ns w; is-item = of (getElem? ns k) t }
   where
     of : (o : Option Note) → the o 17 0 ≡ ok i → o ≡ some i
     of none h = absurd (let z : _≡_ {A = ℕ} 0 1 = cc in let w : ⊥ = omega arith in w)
@@ -224,7 +280,8 @@ not-read T bs h = (
 
 module _ (d s : List ℕ) (k : ℕ) where
   data WrongKind : List ℕ → ℕ → ℕ → Type 0 where
-    another : {q : ℕ} {f : Field} {rest : List ℕ} → StartsAt (unfolded d) s k f q rest → (HasType f 0x23 → ⊥) → (HasType f 0x24 → ⊥) → WrongKind (8 ∷ []) 18 q
+    another : {fs : List Field} {q : ℕ} {f : Field} {rest : List ℕ} → Unfolds d fs → StartsAt fs s k f q rest → (HasType f 0x23 → ⊥) → (HasType f 0x24 → ⊥)
+        → WrongKind (8 ∷ []) 18 q
 
   module _ (i : Note) (e : itemAt d s k ≡ ok i) where
     pub found : FoundIn d s k i
@@ -236,9 +293,17 @@ module _ (d s : List ℕ) (k : ℕ) where
     pub has-type : HasType (i .field) (plainCode (i .field .type))
     has-type = rw (type-plain (i .field .code) (i .field .type) typed) at (has-plain (i .field))
 
-    pub starts : (q : ℕ) (f : Field) (rest : List ℕ) → StartsAt (unfolded d) s k f q rest → (i .field ≡ f) × (i .start ≡ q)
-    starts q f rest x =
-        let (j, a, b, c) = starts-unique (unfolded d) s (found .notes) k (found .walks) f q rest x in
+    abbrev pub fields : List Field
+    fields = found .walked .fields
+
+    -- an item that starts somewhere does so among the fields of the walk
+    pub starts-among : (fs : List Field) (q : ℕ) (f : Field) (rest : List ℕ) → Unfolds d fs → StartsAt fs s k f q rest → StartsAt fields s k f q rest
+    starts-among fs q f rest u x =
+        found .walked .among fs k q f rest u x (omega (arith, is-there (found .notes) k i (found .is-item), item-count fields s (found .notes) (found .walked .walks)))
+
+    pub starts : (fs : List Field) (q : ℕ) (f : Field) (rest : List ℕ) → Unfolds d fs → StartsAt fs s k f q rest → (i .field ≡ f) × (i .start ≡ q)
+    starts fs q f rest u x =
+        let (j, a, b, c) = starts-unique fields s (found .notes) k (found .walked .walks) f q rest (starts-among fs q f rest u x) in
         let g : getElem? (found .notes) k ≡ some i = found .is-item in
         let h : j ≡ i = cc in
         (ap (λ x. x .field) (sym h) ∙ b, ap (λ x. x .start) (sym h) ∙ c)
@@ -262,41 +327,42 @@ module _ (d s : List ℕ) (k : ℕ) where
       where
         first-kind : wholeOf (i .field .type) (valueOf s i) ≡ none → First WrongKind 18 (i .start)
         first-kind n =
-            let x = item-starts (unfolded d) s (found .notes) k (found .walks) i (found .is-item) in
+            let x = item-starts fields s (found .notes) k (found .walked .walks) i (found .is-item) in
             record {
               turn = 8 ∷ [];
               reason =
-                  another (x .1) (λ t. not-read (i .field .type) (valueOf s i) n .0 (type-is (i .field) typed 0x23 integer (omega arith) refl t))
+                  another (found .walked .unfolds) (x .1) (λ t. not-read (i .field .type) (valueOf s i) n .0 (type-is (i .field) typed 0x23 integer (omega arith) refl t))
                   (λ t. not-read (i .field .type) (valueOf s i) n .1 (type-is (i .field) typed 0x24 reversedInteger (omega arith) refl t));
               others-later = λ t m q r. later r;
             }
           where
             later : {t : List ℕ} {m q : ℕ} → WrongKind t m q → Earlier (8 ∷ []) t ⊎ ((t ≡ 8 ∷ []) × (m ≡ 18) × (q ≡ i .start))
-            later (another {q = q} {f = f} {rest = rest} x a b) = inr (refl, refl, sym (starts q f rest x .1))
+            later (another {fs = fs} {q = q} {f = f} {rest = rest} u x a b) = inr (refl, refl, sym (starts fs q f rest u x .1))
 
         go : (o : Option ℤ) → wholeOf (i .field .type) (valueOf s i) ≡ o → Told WrongKind (the o 18 (i .start))
         go none n = refused (first-kind n)
         go (some z) h = accepted (λ t m p r. no-kind r)
           where
             no-kind : {t : List ℕ} {m p : ℕ} → WrongKind t m p → ⊥
-            no-kind (another {q = q} {f = f} {rest = rest} x a b) =
-                let y = starts q f rest x .0 in
+            no-kind (another {fs = fs} {q = q} {f = f} {rest = rest} u x a b) =
+                let y = starts fs q f rest u x .0 in
                 whole-type (i .field .type) refl h (λ t. a (rw y at t)) (λ t. b (rw y at t))
 
   to-whole : (t : List ℕ) (m p : ℕ) → Either (OfState d s k) WrongKind t m p → OfWholeNumber d s k t m p
   to-whole t m p (inl r) = state r
-  to-whole t m p (inr (another x a b)) = wrong-kind x a b
+  to-whole t m p (inr (another u x a b)) = wrong-kind u x a b
 
   of-whole : (t : List ℕ) (m p : ℕ) → OfWholeNumber d s k t m p → Either (OfState d s k) WrongKind t m p
   of-whole t m p (state r) = inl r
-  of-whole t m p (wrong-kind x a b) = inr (another x a b)
+  of-whole t m p (wrong-kind u x a b) = inr (another u x a b)
 
   pub state-from : (t : List ℕ) (m p : ℕ) → OfState d s k t m p → From 1 7 t
   state-from t m p (OfState.block r) = wider 1 7 (omega arith) (omega arith) (block-from r)
-  state-from t m p (no-such-item h) = from 1 7 7 [] (omega arith) (omega arith)
+  state-from t m p (no-such-item e h) = from 1 7 7 [] (omega arith) (omega arith)
+  state-from t m p (not-in-rows e u h) = from 1 7 7 [] (omega arith) (omega arith)
 
   kind-from : (t : List ℕ) (m p : ℕ) → WrongKind t m p → From 8 8 t
-  kind-from t m p (another x a b) = from 8 8 8 [] (omega arith) (omega arith)
+  kind-from t m p (another u x a b) = from 8 8 8 [] (omega arith) (omega arith)
 
   pub whole-told : Told (OfWholeNumber d s k) (wholeNumber d s k)
   unfolding wholeNumber

@@ -11,8 +11,8 @@ use mathlib.Core.Option.{Option, none, some}
 use lib.Dec.{ltb, eqb}
 use borrow.Author.Tests.{not-false}
 use lib.ListN.{length, length-append, length-replicate}
-use Rattle.fdoca.specs.Basics.{if_then_else_, elem, lookup, repeat, product, ok}
-use Rattle.fdoca.specs.Triplet.{Triplet, torn, triplet, triplets, Kind, RLO, GDA, Construct, SDA, ISD, CPT, grouped, constructOf, idOf, codeOf, parametersOf, extentsOf, Group, taken, factor, groupsOf}
+use Rattle.fdoca.specs.Basics.{if_then_else_, elem, lookup, isEmpty, repeat, product, ok}
+use Rattle.fdoca.specs.Triplet.{Triplet, torn, triplet, triplets, lastPlace, Kind, RLO, GDA, Construct, SDA, ISD, CPT, grouped, constructOf, idOf, codeOf, parametersOf, extentsOf, Group, taken, factor, groupsOf}
 use Rattle.fdoca.specs.FieldType.{FieldType, typeOf}
 use Rattle.fdoca.specs.Item.{Field}
 use Rattle.fdoca.specs.Between.{entry, entries, rowCounted, state}
@@ -65,32 +65,34 @@ fitting g (U.row l) h = absurd (true≢false h)
 length-column : (g : Group) (d : U.Described) → Fitting g d → 1 ≡ length (U.columnReferred g (some d))
 length-column g (U.array f []) (single h) = refl
 
-count-added : (kind : Kind) (p : ℕ) (g : Group) (d : U.Described) → IfOk (λ k. k ≡ length (U.fieldsAdded kind g (some d))) (C.countAdded kind p g (entry d))
+count-added : (kind : Kind) (ends : Bool) (p : ℕ) (g : Group) (d : U.Described)
+    → IfOk (λ k. k ≡ length (U.fieldsAdded kind g (some d))) (C.countAdded kind ends p g (entry d))
 unfolding C.countAdded
-count-added RLO p g d =
-    reject-all (eqb (factor g) 0) 9 p
+count-added RLO ends p g d =
+    reject-all (eqb (factor g) 0 && not ends) 9 p
     (λ h. the-all (C.countTaken (taken g) (entry d)) 9 p
     (λ k e. holds (rw (length-repeat, length-taken (taken g) d k e))))
-count-added GDA p g d = reject-all (not (C.fits g (entry d))) 21 p (λ h. holds (length-column g d (fitting g d h)))
+count-added GDA ends p g d = reject-all (not (C.fits g (entry d))) 21 p (λ h. holds (length-column g d (fitting g d h)))
 
-add-group : (kind : Kind) (p n : ℕ) (g : Group) (o : Option U.Described)
-    → IfOk (λ m. m ≡ n + length (U.fieldsAdded kind g o)) (C.addGroup kind p n g (entry? o))
+add-group : (kind : Kind) (ends : Bool) (p n : ℕ) (g : Group) (o : Option U.Described)
+    → IfOk (λ m. m ≡ n + length (U.fieldsAdded kind g o)) (C.addGroup kind ends p n g (entry? o))
 unfolding C.addGroup
-add-group kind p n g none = none-owed
-add-group kind p n g (some d) =
-    bind-all (C.countAdded kind p g (entry d)) (count-added kind p g d)
+add-group kind ends p n g none = none-owed
+add-group kind ends p n g (some d) =
+    bind-all (C.countAdded kind ends p g (entry d)) (count-added kind ends p g d)
     (λ k e. reject-all (ltb C.maxItems (n + k)) 10 p
     (λ h. holds (rw e)))
 
-add-groups : (kind : Kind) (p : ℕ) (ds : List (ℕ × U.Described)) (l : List Field) (gs : List Group)
-    → IfOk (λ m. m ≡ length (U.addFields kind ds l gs)) (C.addGroups kind p (entries ds) (length l) gs)
+add-groups : (kind : Kind) (last : Bool) (p : ℕ) (ds : List (ℕ × U.Described)) (l : List Field) (gs : List Group)
+    → IfOk (λ m. m ≡ length (U.addFields kind ds l gs)) (C.addGroups kind last p (entries ds) (length l) gs)
 unfolding C.addGroups U.addFields
-add-groups kind p ds l [] = holds refl
-add-groups kind p ds l (g ∷ gs) =
+add-groups kind last p ds l [] = holds refl
+add-groups kind last p ds l (g ∷ gs) =
     rw (lookup-entries (g .ref) ds)
-    (bind-all (C.addGroup kind p (length l) g (entry? (lookup (g .ref) ds))) (add-group kind p (length l) g (lookup (g .ref) ds))
+    (bind-all (C.addGroup kind (last && isEmpty gs) p (length l) g (entry? (lookup (g .ref) ds)))
+    (add-group kind (last && isEmpty gs) p (length l) g (lookup (g .ref) ds))
     (λ m e. let e′ : m ≡ length (l ++ U.groupFields kind ds g) = e ∙ sym (length-append l (U.groupFields kind ds g)) in
-    rw e′ (add-groups kind p ds (l ++ U.groupFields kind ds g) gs)))
+    rw e′ (add-groups kind last p ds (l ++ U.groupFields kind ds g) gs)))
 
 -- a type or parameters that are not good are refused, and so is a type code without a rule
 pub bad-type : (t : List ℕ) → C.goodType (typeOf (codeOf t)) (parametersOf t) ≡ false → C.goodSDA t ≡ false
@@ -116,24 +118,25 @@ check-SDA u p t (some T) e =
     (λ h₂. reject-all (ltb C.maxItems (product (extentsOf t))) 10 p
     (λ h₃. holds refl))))
 
-check-row : (kind : Kind) (u : U.Layouts) (p : ℕ) (t : List ℕ) → IfOk (λ st. st ≡ state (U.unfoldRow kind u t)) (C.checkRow kind (entries (U.closed u)) p t)
+check-row : (kind : Kind) (last : Bool) (u : U.Layouts) (p : ℕ) (t : List ℕ)
+    → IfOk (λ st. st ≡ state (U.unfoldRow kind u t)) (C.checkRow kind last (entries (U.closed u)) p t)
 unfolding C.checkRow U.unfoldRow
-check-row kind u p t =
+check-row kind last u p t =
     reject-all (not (C.goodLengthRow t)) 5 p
     (λ h. reject-all (eqb (idOf t) 0) 6 p
     (λ h₁. reject-all (C.isDescribed (idOf t) (entries (U.closed u))) 7 p
-    (λ h₂. bind-all (C.addGroups kind p (entries (U.closed u)) 0 (groupsOf t)) (add-groups kind p (U.closed u) [] (groupsOf t)) (λ n e. holds (rw e)))))
+    (λ h₂. bind-all (C.addGroups kind last p (entries (U.closed u)) 0 (groupsOf t)) (add-groups kind last p (U.closed u) [] (groupsOf t)) (λ n e. holds (rw e)))))
 
-check-CPT : (u : U.Layouts) (p : ℕ) (t : List ℕ) → IfOk (λ st. st ≡ state (U.unfoldCPT (u .current) u t)) (C.checkCPT (state u) p t)
+check-CPT : (last : Bool) (u : U.Layouts) (p : ℕ) (t : List ℕ) → IfOk (λ st. st ≡ state (U.unfoldCPT (u .current) u t)) (C.checkCPT last (state u) p t)
 unfolding C.checkCPT U.unfoldCPT
-check-CPT u p t = go (u .current)
+check-CPT last u p t = go (u .current)
   where
     go : (o : Option (ℕ × List Field × Kind))
-        → IfOk (λ st. st ≡ state (U.unfoldCPT o u t)) (C.checkCPT (record { described = entries (u .described); current = rowCounted o }) p t)
+        → IfOk (λ st. st ≡ state (U.unfoldCPT o u t)) (C.checkCPT last (record { described = entries (u .described); current = rowCounted o }) p t)
     go none = none-owed
     go (some r) =
         reject-all (not (C.goodLengthRow t)) 5 p (λ h. reject-all (not (eqb (idOf t) 0)) 6 p
-        (λ h₁. bind-all (C.addGroups (r .2) p (entries (u .described)) (length (r .1)) (groupsOf t)) (add-groups (r .2) p (u .described) (r .1) (groupsOf t))
+        (λ h₁. bind-all (C.addGroups (r .2) last p (entries (u .described)) (length (r .1)) (groupsOf t)) (add-groups (r .2) last p (u .described) (r .1) (groupsOf t))
         (λ n e. holds (rw e))))
 
 check-ISD : (u : U.Layouts) (p : ℕ) (t : List ℕ) → IfOk (λ st. st ≡ state u) (C.checkISD (state u) p t)
@@ -144,25 +147,25 @@ check-ISD u p t =
     (λ h₁. reject-all (not (C.goodISD t)) 6 p
     (λ h₂. holds refl)))
 
-check-construct : (c : Option Construct) (u : U.Layouts) (p : ℕ) (t : List ℕ)
-    → IfOk (λ st. st ≡ state (U.unfoldConstruct c u t)) (C.checkConstruct c (state u) p t)
+check-construct : (c : Option Construct) (last : Bool) (u : U.Layouts) (p : ℕ) (t : List ℕ)
+    → IfOk (λ st. st ≡ state (U.unfoldConstruct c u t)) (C.checkConstruct c last (state u) p t)
 unfolding C.checkConstruct U.unfoldConstruct
-check-construct none u p t = none-owed
-check-construct (some SDA) u p t = rw (closed-state u) (check-SDA u p t (typeOf (codeOf t)) refl)
-check-construct (some (grouped kind)) u p t = rw (closed-state u) (check-row kind u p t)
-check-construct (some ISD) u p t = check-ISD u p t
-check-construct (some CPT) u p t = check-CPT u p t
+check-construct none last u p t = none-owed
+check-construct (some SDA) last u p t = rw (closed-state u) (check-SDA u p t (typeOf (codeOf t)) refl)
+check-construct (some (grouped kind)) last u p t = rw (closed-state u) (check-row kind last u p t)
+check-construct (some ISD) last u p t = check-ISD u p t
+check-construct (some CPT) last u p t = check-CPT last u p t
 
-pub check-triplet : (u : U.Layouts) (t : Triplet) → IfOk (λ st. st ≡ state (U.unfoldTriplet u t)) (C.checkTriplet (state u) t)
+pub check-triplet : (last : Bool) (u : U.Layouts) (t : Triplet) → IfOk (λ st. st ≡ state (U.unfoldTriplet u t)) (C.checkTriplet last (state u) t)
 unfolding C.checkTriplet U.unfoldTriplet
-check-triplet u (torn p) = none-owed
-check-triplet u (triplet p t) = check-construct (constructOf t) u p t
+check-triplet last u (torn p) = none-owed
+check-triplet last u (triplet p t) = check-construct (constructOf t) last u p t
 
 pub check-triplets : (u : U.Layouts) (ts : List Triplet) → IfOk (λ st. st ≡ state (U.unfoldTriplets u ts)) (C.checkTriplets (state u) ts)
 unfolding C.checkTriplets U.unfoldTriplets
 check-triplets u [] = holds refl
 check-triplets u (t ∷ ts) =
-    bind-all (C.checkTriplet (state u) t) (check-triplet u t) (λ st e. rw e (check-triplets (U.unfoldTriplet u t) ts))
+    bind-all (C.checkTriplet (isEmpty ts) (state u) t) (check-triplet (isEmpty ts) u t) (λ st e. rw e (check-triplets (U.unfoldTriplet u t) ts))
 
 last-count : (size : ℕ) (ds : List (ℕ × U.Described)) → IfOk (λ n. n ≡ length (U.lastFields ds)) (C.lastCount size (entries ds))
 last-count size [] = none-owed
@@ -173,7 +176,9 @@ unfolding C.check U.unfolded
 check-count d =
     reject-all (ltb C.maxDescriptor (length d)) 1 0
     (λ h. bind-all (C.checkTriplets C.begin (triplets d)) (check-triplets U.start (triplets d))
-    (λ st e. rw (e, closed-state (U.unfoldTriplets U.start (triplets d))) (last-count (length d) (U.closed (U.unfoldTriplets U.start (triplets d))))))
+    (λ st e. bind-all (C.lastCount (length d) (C.closed st))
+    (rw (e, closed-state (U.unfoldTriplets U.start (triplets d))) (last-count (length d) (U.closed (U.unfoldTriplets U.start (triplets d)))))
+    (λ n c. reject-all (C.isEndless (U.repeated d)) 22 (lastPlace (triplets d)) (λ h₁. holds c))))
 
 -- The check's count of an accepted descriptor is the length of its unfolding.
 pub count-is-length : (d : List ℕ) (n : ℕ) → C.check d ≡ ok n → length (U.unfolded d) ≡ n

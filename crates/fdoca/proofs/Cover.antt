@@ -56,6 +56,9 @@ covers-from p (f ∷ fs) s =
     } in
     holds r))
 
+pub cut-covers : (p : ℕ) (fs : List Field) (s : List ℕ) (c : Cut) → cutFrom p fs s ≡ ok c → Covers p fs s c
+cut-covers p fs s c e = ok-of (rw e at (covers-from p fs s))
+
 -- what is noted of an accepted block
 pub record Walked (fs : List Field) (s : List ℕ) (ns : List Note) : Type 0 where
   pub total : sum (lengths ns) ≡ length s

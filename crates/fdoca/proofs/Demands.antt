@@ -3,6 +3,8 @@
 -- accepted since no reason holds.
 -- Demand 2: a block is accepted exactly when its bytes are the items of the unfolding by the standard's account, and it is read as that account says.
 -- Demand 3: what the walk says is what the list and the states say; the count is the descriptor's alone; the items cover the block.
+-- For a descriptor with rows to the end (document 02, Q-5), `repeated d ≡ some rows`, a second set of statements says this of the fields before the rows
+-- and some number of whole passes; the first set is for all others, `repeated d ≡ none`.
 -- Assumes nothing.
 use mathlib.Core.Path.{_≡_, refl, sym, ap, _∙_}
 use mathlib.Core.Logic.{_↔_}
@@ -19,28 +21,30 @@ use Rattle.fdoca.specs.Basics.{if_then_else_, Result, refuse, ok, _>>=_,
 use Rattle.fdoca.specs.FieldType.{FieldType, fixed, typeOf, bytes, digits, sizeOf, ruleOf}
 use Rattle.fdoca.specs.Triplet.{GDA, codeOf, parametersOf}
 use Rattle.fdoca.specs.Item.{Field, withSize}
-use Rattle.fdoca.specs.Walk.{Note, walk}
+use Rattle.fdoca.specs.Walk.{Note, walk, walkRows, walkBy}
 use Rattle.fdoca.specs.Check.{maxDescriptor, maxItems, Entry, array, suitsType, goodColumn, countAdded, addGroup, goodLengthSDA, checkSDA, check}
-use Rattle.fdoca.specs.Unfolding.{fieldsAdded, fieldOf, unfolded}
+use Rattle.fdoca.specs.Unfolding.{fieldsAdded, fieldOf, unfolded, repeated}
 use Rattle.fdoca.specs.Unfolding as U
 use Rattle.fdoca.specs.Account.{Parts, Block, Packed}
-use Rattle.fdoca.specs.Calls.{maxData, oversize, itemList, list, itemAt, valueOf, wholeOf, wholeNumber, packed, checked, listed, entriesAfter, stateOf, lent, wholeAnswer, decimalAnswer}
+use Rattle.fdoca.specs.Calls.{maxData, oversize, itemList, small, list, itemAt, valueOf, wholeOf, wholeNumber, packed, checked, listed, entriesAfter, stateOf, lent, wholeAnswer, decimalAnswer}
 use Rattle.fdoca.specs.Packed.{packedNumber}
-use Rattle.fdoca.specs.Reasons.{byte, OneOf, F, Suits, Allowed, Means, OfItems, OfDescriptor, OfList, OfState, OfWholeNumber, OfPacked, fileDescriptor, fileData, OfFile, First, None}
+use Rattle.fdoca.specs.Reasons.{byte, OneOf, F, Suits, Allowed, Means, OfItems, withPasses, OfRows, Uses, Unfolds, as-it-is, and-passes, OfDescriptor, OfList, OfState, OfWholeNumber, OfPacked, fileDescriptor, fileData, OfFile, First, None}
 use Rattle.fdoca.specs.Dump.{refusedLine, textOf, secondSize, dump}
 use Rattle.fdoca.specs.Cover.{sum, positions, lengths, InItem, startOf, notesOf, noteOfParts}
 use Rattle.fdoca.proofs.Table.{there, past-end}
-use Rattle.fdoca.proofs.Results.{ok-bind, ok-reject}
 use Rattle.fdoca.proofs.Count.{count-is-length, bad-type}
 use Rattle.fdoca.proofs.Limits.{at-most-4096}
 use Rattle.fdoca.proofs.Cover.{walk-covers, in-an-item, in-one-item}
 use Rattle.fdoca.proofs.Blocks.{walk-complete, walk-sound, note-of-part}
+use Rattle.fdoca.proofs.BlockRows.{notes-number}
 use Rattle.fdoca.proofs.Calls.{items-noted, list-keeps}
 use Rattle.fdoca.proofs.FirstReasons.{refused-first, accepted-none}
 use Rattle.fdoca.proofs.TypeRows.{code-of-type, type-suits, size-given, size-default, size-else, no-sixteen, sixteen-kept}
 use Rattle.fdoca.proofs.CheckRows.{check-told}
-use Rattle.fdoca.proofs.CallRows.{items-told, list-told, state-told, whole-told}
-use Rattle.fdoca.proofs.Fields.{good-at, digits-packed, fields-good, field-allowed, item-good}
+use Rattle.fdoca.proofs.RowReasons.{one-number}
+use Rattle.fdoca.proofs.Data.{item-count, not-endless, items-told, walk-rows-told, WalkedBy, walked-by, block-walked}
+use Rattle.fdoca.proofs.CallRows.{list-told, state-told, whole-told}
+use Rattle.fdoca.proofs.Fields.{good-at, digits-packed, unfolding-good, rows-good, field-allowed, item-good}
 use Rattle.fdoca.proofs.Packed.{packed-sound, packed-complete}
 use Rattle.fdoca.proofs.PackedRows.{packed-told}
 use Rattle.fdoca.proofs.FileRows.{fileNotes, file-text, file-told, file-listed}
@@ -67,11 +71,19 @@ module _ (d s old : List ℕ) where
   pub refusal-unaltered : (m p : ℕ) → list d s old ≡ refuse m p → entriesAfter old (list d s old) ≡ old
   refusal-unaltered m p e = rw e
 
-  pub beyond-unaltered : (new : List ℕ) → list d s old ≡ ok new
+  pub beyond-unaltered : repeated d ≡ none → (new : List ℕ) → list d s old ≡ ok new
       → (length new ≡ length old) × (drop (2 + 2 * length (unfolded d)) new ≡ drop (2 + 2 * length (unfolded d)) old)
-  beyond-unaltered new e =
-      let k = list-keeps d s old new e in
-      rw (count-is-length d (k .0) (k .1)) (k .2 .size, k .2 .beyond)
+  beyond-unaltered plain new e =
+      let (n, ns, c, w, k) = list-keeps d s old new e in
+      let x = walked-by d n c s ns w in
+      let l : length ns ≡ length (unfolded d) = item-count (x .fields) s ns (x .walks) ∙ ap length (x .plain plain) in
+      rw (← l) (k .size, k .beyond)
+
+  pub beyond-rows-unaltered : (rows : List Field) → repeated d ≡ some rows → (n : ℕ) → Uses (unfolded d) rows s n → (new : List ℕ) → list d s old ≡ ok new
+      → (length new ≡ length old) × (drop (2 + 2 * n) new ≡ drop (2 + 2 * n) old)
+  beyond-rows-unaltered rows r n u new e =
+      let (m, ns, c, w, k) = list-keeps d s old new e in
+      rw (walked-by d m c s ns w .used rows n r u) (k .size, k .beyond)
 
 -- State and lending go by the same item.
 module _ (d s : List ℕ) (k : ℕ) where
@@ -134,7 +146,8 @@ module _ (f : List ℕ) where
   pub dump-refuses : (m p : ℕ) → First (OfFile f) m p → dump f ≡ refusedLine m p
   dump-refuses m p h = file-text f ∙ ap (textOf (secondSize f)) (refused-first (fileNotes f) (file-told f) m p .1 h)
 
-  pub dump-lists : None (OfFile f) → (ns : List Note) × (walk (unfolded (fileDescriptor f)) (fileData f) ≡ ok ns) × (dump f ≡ textOf (length (fileData f)) (ok ns))
+  pub dump-lists : None (OfFile f)
+      → (ns : List Note) × (walkBy (unfolded (fileDescriptor f)) (repeated (fileDescriptor f)) (fileData f) ≡ ok ns) × (dump f ≡ textOf (length (fileData f)) (ok ns))
   dump-lists h =
       let (ns, e) = accepted-none (fileNotes f) (file-told f) .1 h in
       let (w, l) = file-listed f ns e in
@@ -142,17 +155,17 @@ module _ (f : List ℕ) where
 
 -- DEMAND 3
 
--- The count is the unfolding's length, at most 4,096: the data plays no part in it.
+-- The count is the unfolding's length, at most 4,096: the data plays no part in it. With rows to the end it is the count before them.
 pub count-of-descriptor : (d : List ℕ) (n : ℕ) → check d ≡ ok n → (n ≡ length (unfolded d)) × (n ≤ 4096)
 count-of-descriptor d n accepts = (sym (count-is-length d n accepts), at-most-4096 d n accepts)
 
 module _ (d s : List ℕ) (n : ℕ) (accepts : check d ≡ ok n) where
   -- The walk stops exactly at the first item that the data cuts short or spoils, or at bytes left over; else it takes all items.
   pub walk-stops : (m p : ℕ) → (walk (unfolded d) s ≡ refuse m p) ↔ First (OfItems (unfolded d) s) m p
-  walk-stops m p = refused-first (walk (unfolded d) s) (items-told d s n accepts) m p
+  walk-stops m p = refused-first (walk (unfolded d) s) (items-told d n accepts s) m p
 
   pub walk-ends : ((ns : List Note) × (walk (unfolded d) s ≡ ok ns)) ↔ None (OfItems (unfolded d) s)
-  walk-ends = accepted-none (walk (unfolded d) s) (items-told d s n accepts)
+  walk-ends = accepted-none (walk (unfolded d) s) (items-told d n accepts s)
 
   -- It then has taken n items.
   pub items-counted : (ns : List Note) → walk (unfolded d) s ≡ ok ns → length ns ≡ n
@@ -185,42 +198,137 @@ module _ (d s : List ℕ) (n : ℕ) (accepts : check d ≡ ok n) (few : length s
           absurd (let z : _≡_ {A = ℕ} 0 1 = cc in let w : ⊥ = omega arith in w)
       go false e = le-ltb 32768 (length s) few
 
-  list-walks : (old : List ℕ) → 2 + 2 * n ≤ length old → list d s old ≡ (walk (unfolded d) s >>= (λ ns. ok (itemList n (length s) ns old)))
-  unfolding list
-  list-walks old room = rw (no-oversize, accepts, le-ltb (length old) (2 + 2 * n) room)
-
-  item-walks : (k : ℕ) → itemAt d s k ≡ (walk (unfolded d) s >>= (λ ns. the (getElem? ns k) 17 0))
+  item-walks : (k : ℕ) → itemAt d s k ≡ (walkBy (unfolded d) (repeated d) s >>= (λ ns. the (getElem? ns k) 17 0))
   unfolding itemAt
   item-walks k = rw (no-oversize, accepts)
 
-  -- Where the walk stops, the list call with room enough and the state of any item say so, the list is as before, and no part is lent.
-  module _ (m p : ℕ) (e : walk (unfolded d) s ≡ refuse m p) where
-    pub list-stops : (old : List ℕ) → 2 + 2 * n ≤ length old → (list d s old ≡ refuse m p) × (entriesAfter old (list d s old) ≡ old)
-    list-stops old room = (rw (list-walks old room, e), rw (list-walks old room, e))
+  -- what the state call says where the walk stops, and where it does not
+  states-stop-by : (m p : ℕ) → walkBy (unfolded d) (repeated d) s ≡ refuse m p → (k : ℕ)
+      → (stateOf (itemAt d s k) ≡ record { number = m; place = p; null = false; code = 0; length = 0 }) × (lent s (itemAt d s k) ≡ [])
+  states-stop-by m p e k = (rw (item-walks k, e), rw (item-walks k, e))
 
-    pub states-stop : (k : ℕ) → (stateOf (itemAt d s k) ≡ record { number = m; place = p; null = false; code = 0; length = 0 }) × (lent s (itemAt d s k) ≡ [])
-    states-stop k = (rw (item-walks k, e), rw (item-walks k, e))
+  state-holds-by : (ns : List Note) → walkBy (unfolded d) (repeated d) s ≡ ok ns → (k : ℕ) → k < length ns
+      → (i : Note) × (getElem? ns k ≡ some i)
+      × (stateOf (itemAt d s k) ≡ record { number = 0; place = 0; null = i .isNull; code = i .field .code; length = i .value })
+      × (lent s (itemAt d s k) ≡ valueOf s i)
+  state-holds-by ns e k h = let q = there ns k h in (q .0, q .1, rw (item-walks k, e, q .1), rw (item-walks k, e, q .1))
 
-  module _ (ns : List Note) (e : walk (unfolded d) s ≡ ok ns) where
-    -- Where it does not, that list holds the count, the block's length, the positions and the ids,
-    pub list-holds : (old : List ℕ) → 2 + 2 * n ≤ length old → entriesAfter old (list d s old) ≡ itemList n (length s) ns old
-    list-holds old room = rw (list-walks old room, e)
+  no-more-states-by : (ns : List Note) → walkBy (unfolded d) (repeated d) s ≡ ok ns → (k : ℕ) → length ns ≤ k
+      → (stateOf (itemAt d s k) ≡ record { number = 17; place = 0; null = false; code = 0; length = 0 }) × (lent s (itemAt d s k) ≡ [])
+  no-more-states-by ns e k h = let q = past-end ns k h in (rw (item-walks k, e, q), rw (item-walks k, e, q))
 
-    -- the state of item k below n is what was noted for field k, and its part is lent,
-    pub state-holds : (k : ℕ) → k < n
-        → (i : Note) × (getElem? ns k ≡ some i)
-        × (stateOf (itemAt d s k) ≡ record { number = 0; place = 0; null = i .isNull; code = i .field .code; length = i .value })
-        × (lent s (itemAt d s k) ≡ valueOf s i)
-    state-holds k h =
-        let q = there ns k (omega (arith, items-noted d s n ns accepts e)) in
-        (q .0, q .1, rw (item-walks k, e, q .1), rw (item-walks k, e, q .1))
+  -- WITHOUT ROWS TO THE END
+  module _ (plain : repeated d ≡ none) where
+    walks-unfolding : walkBy (unfolded d) (repeated d) s ≡ walk (unfolded d) s
+    unfolding walkBy
+    walks-unfolding = rw plain
 
-    -- and from n on there is no such item.
-    pub no-more-states : (k : ℕ) → n ≤ k
-        → (stateOf (itemAt d s k) ≡ record { number = 17; place = 0; null = false; code = 0; length = 0 }) × (lent s (itemAt d s k) ≡ [])
-    no-more-states k h =
-        let q = past-end ns k (omega (arith, items-noted d s n ns accepts e)) in
-        (rw (item-walks k, e, q), rw (item-walks k, e, q))
+    list-walks : (old : List ℕ) → 2 + 2 * n ≤ length old → list d s old ≡ (walk (unfolded d) s >>= (λ ns. ok (itemList n (length s) ns old)))
+    unfolding list walkBy
+    list-walks old room = rw (no-oversize, accepts, plain, le-ltb (length old) (2 + 2 * n) room) (go (walk (unfolded d) s) refl)
+      where
+        go : (w : Result (List Note)) → walk (unfolded d) s ≡ w
+            → (w >>= (λ ns. reject (small (length old) (length ns)) 12 0 >> ok (itemList (length ns) (length s) ns old))) ≡ (w >>= (λ ns. ok (itemList n (length s) ns old)))
+        go (refuse m p) e = refl
+        go (ok ns) e = rw (items-noted d s n ns accepts e, le-ltb (length old) (2 + 2 * n) room)
+
+    -- Where the walk stops, the list call with room enough and the state of any item say so, the list is as before, and no part is lent.
+    module _ (m p : ℕ) (e : walk (unfolded d) s ≡ refuse m p) where
+      pub list-stops : (old : List ℕ) → 2 + 2 * n ≤ length old → (list d s old ≡ refuse m p) × (entriesAfter old (list d s old) ≡ old)
+      list-stops old room = (rw (list-walks old room, e), rw (list-walks old room, e))
+
+      pub states-stop : (k : ℕ) → (stateOf (itemAt d s k) ≡ record { number = m; place = p; null = false; code = 0; length = 0 }) × (lent s (itemAt d s k) ≡ [])
+      states-stop k = states-stop-by m p (walks-unfolding ∙ e) k
+
+    module _ (ns : List Note) (e : walk (unfolded d) s ≡ ok ns) where
+      -- Where it does not, that list holds the count, the block's length, the positions and the ids,
+      pub list-holds : (old : List ℕ) → 2 + 2 * n ≤ length old → entriesAfter old (list d s old) ≡ itemList n (length s) ns old
+      list-holds old room = rw (list-walks old room, e)
+
+      -- the state of item k below n is what was noted for field k, and its part is lent,
+      pub state-holds : (k : ℕ) → k < n
+          → (i : Note) × (getElem? ns k ≡ some i)
+          × (stateOf (itemAt d s k) ≡ record { number = 0; place = 0; null = i .isNull; code = i .field .code; length = i .value })
+          × (lent s (itemAt d s k) ≡ valueOf s i)
+      state-holds k h = state-holds-by ns (walks-unfolding ∙ e) k (omega (arith, items-noted d s n ns accepts e))
+
+      -- and from n on there is no such item.
+      pub no-more-states : (k : ℕ) → n ≤ k
+          → (stateOf (itemAt d s k) ≡ record { number = 17; place = 0; null = false; code = 0; length = 0 }) × (lent s (itemAt d s k) ≡ [])
+      no-more-states k h = no-more-states-by ns (walks-unfolding ∙ e) k (omega (arith, items-noted d s n ns accepts e))
+
+  -- WITH ROWS TO THE END
+  module _ (rows : List Field) (repeats : repeated d ≡ some rows) where
+    walks-rows : walkBy (unfolded d) (repeated d) s ≡ walkRows (unfolded d) rows s
+    unfolding walkBy
+    walks-rows = rw repeats
+
+    -- The walk stops exactly at the first item that the data cuts short or spoils, or at the 4,097th; else it ends with the data.
+    pub rows-stop : (m p : ℕ) → (walkRows (unfolded d) rows s ≡ refuse m p) ↔ First (OfRows (unfolded d) rows s) m p
+    rows-stop m p = refused-first (walkRows (unfolded d) rows s) (walk-rows-told d n accepts s rows repeats) m p
+
+    pub rows-end : ((ns : List Note) × (walkRows (unfolded d) rows s ≡ ok ns)) ↔ None (OfRows (unfolded d) rows s)
+    rows-end = accepted-none (walkRows (unfolded d) rows s) (walk-rows-told d n accepts s rows repeats)
+
+    list-walks-rows : (old : List ℕ) → list d s old
+        ≡ (walkRows (unfolded d) rows s >>= (λ ns. reject (small (length old) (length ns)) 12 0 >> ok (itemList (length ns) (length s) ns old)))
+    unfolding list walkBy
+    list-walks-rows old = rw (no-oversize, accepts, repeats)
+
+    -- Where it stops, the list call says so, with room enough or not, and the state of any item does.
+    module _ (m p : ℕ) (e : walkRows (unfolded d) rows s ≡ refuse m p) where
+      pub rows-list-stops : (old : List ℕ) → (list d s old ≡ refuse m p) × (entriesAfter old (list d s old) ≡ old)
+      rows-list-stops old = (rw (list-walks-rows old, e), rw (list-walks-rows old, e))
+
+      pub rows-states-stop : (k : ℕ) → (stateOf (itemAt d s k) ≡ record { number = m; place = p; null = false; code = 0; length = 0 }) × (lent s (itemAt d s k) ≡ [])
+      rows-states-stop k = states-stop-by m p (walks-rows ∙ e) k
+
+    module _ (ns : List Note) (e : walkRows (unfolded d) rows s ≡ ok ns) where
+      walked : WalkedBy d n accepts s ns
+      walked = walked-by d n accepts s ns (walks-rows ∙ e)
+
+      -- Where it ends, it has taken the items of the fields before and of some number of whole passes in order, at most 4,096, laid end to end over the whole
+      -- block;
+      pub items-of-passes : (j : ℕ) × (map (λ i. i .field) ns ≡ withPasses (unfolded d) rows j) × (length ns ≤ 4096)
+      items-of-passes = go (walked .fields) (walked .unfolds) (walk-covers (walked .fields) s ns (walked .walks) .fields)
+        where
+          go : (fs : List Field) → Unfolds d fs → map (λ i. i .field) ns ≡ fs → (j : ℕ) × (map (λ i. i .field) ns ≡ withPasses (unfolded d) rows j) × (length ns ≤ 4096)
+          go fs (as-it-is q) f = absurd (let z : _≡_ {A = ℕ} 0 1 = cc in let w : ⊥ = omega arith in w)
+          go fs (and-passes {rows = other} j q) f = let z : other ≡ rows = cc in (j, rw z at f, walked .few)
+
+      pub rows-add-up : (sum (lengths ns) ≡ length s) × (map (λ i. i .start) ns ≡ positions 0 (lengths ns))
+      rows-add-up = let w = walk-covers (walked .fields) s ns (walked .walks) in (w .total, w .starts)
+
+      -- their number is that of the passes that use up the data, and of no other;
+      pub rows-counted : (m : ℕ) → Uses (unfolded d) rows s m ↔ (m ≡ length ns)
+      rows-counted m = (λ u. walked .used rows m repeats u, λ q. rw q (walked .uses rows repeats))
+
+      -- so each byte lies in one item, and in no other.
+      pub byte-in-one-of-rows : (b : ℕ) → b < length s → (k : ℕ) × InItem ns b k
+      byte-in-one-of-rows b h = in-an-item (walked .fields) s ns (walked .walks) b h
+
+      pub byte-in-no-other-of-rows : (b j k : ℕ) → InItem ns b j → InItem ns b k → j ≡ k
+      byte-in-no-other-of-rows b j k x y = in-one-item (walked .fields) s ns (walked .walks) b j k x y
+
+      -- The list with room for them holds them; a smaller one is refused with 12 and is as before;
+      pub rows-list-holds : (old : List ℕ) → 2 + 2 * length ns ≤ length old → entriesAfter old (list d s old) ≡ itemList (length ns) (length s) ns old
+      rows-list-holds old room = rw (list-walks-rows old, e, le-ltb (length old) (2 + 2 * length ns) room)
+
+      pub rows-list-small : (old : List ℕ) → length old < 2 + 2 * length ns → (list d s old ≡ refuse 12 0) × (entriesAfter old (list d s old) ≡ old)
+      rows-list-small old small-is =
+          let q : list d s old ≡ refuse 12 0 = rw (list-walks-rows old, e, lt-ltb (length old) (2 + 2 * length ns) small-is) in
+          (q, rw q)
+
+      -- the state of each is what was noted of it, and its part is lent, and behind them there is no item.
+      pub rows-state-holds : (k : ℕ) → k < length ns
+          → (i : Note) × (getElem? ns k ≡ some i)
+          × (stateOf (itemAt d s k) ≡ record { number = 0; place = 0; null = i .isNull; code = i .field .code; length = i .value })
+          × (lent s (itemAt d s k) ≡ valueOf s i)
+      rows-state-holds k h = state-holds-by ns (walks-rows ∙ e) k h
+
+      pub no-more-rows : (k : ℕ) → length ns ≤ k
+          → (stateOf (itemAt d s k) ≡ record { number = 17; place = 0; null = false; code = 0; length = 0 }) × (lent s (itemAt d s k) ≡ [])
+      no-more-rows k h = no-more-states-by ns (walks-rows ∙ e) k h
 
 -- DEMAND 2
 
@@ -264,42 +372,69 @@ module _ (ref a b : ℕ) (f : Field) where
   zero-keeps e = rw e
 
 -- and a length that does not suit the type of an SDA without extents is refused with 21, with no default put in.
-pub misfit-21 : (p n ref a b code : ℕ) → 0 < F a b → (Suits code a b → ⊥)
-    → addGroup GDA p n (record { ref = ref; byte1 = a; byte2 = b }) (some (array code [])) ≡ refuse 21 p
+pub misfit-21 : (ends : Bool) (p n ref a b code : ℕ) → 0 < F a b → (Suits code a b → ⊥)
+    → addGroup GDA ends p n (record { ref = ref; byte1 = a; byte2 = b }) (some (array code [])) ≡ refuse 21 p
 unfolding addGroup countAdded goodColumn
-misfit-21 p n ref a b code h unsuited = rw (lt-ltb 0 (F a b) h) (go (suitsType (typeOf code) a b) refl)
+misfit-21 ends p n ref a b code h unsuited = rw (lt-ltb 0 (F a b) h) (go (suitsType (typeOf code) a b) refl)
   where
     go : (x : Bool) → suitsType (typeOf code) a b ≡ x → ((reject (not x) 21 p >> ok 1) >>= (λ k. reject (ltb maxItems (n + k)) 10 p >> ok (n + k))) ≡ refuse 21 p
     go true e = absurd (unsuited (type-suits code a b e))
     go false e = refl
 
 -- No field of an accepted descriptor has a size that 01's table does not allow for its code, whatever the bias indicator, of which 0 is always allowed.
-pub lengths-allowed : (d : List ℕ) (n : ℕ) → check d ≡ ok n → (before : List Field) (f : Field) (after : List Field) → unfolded d ≡ before ++ (f ∷ after)
+pub lengths-allowed : (d : List ℕ) (n : ℕ) → check d ≡ ok n → (fs : List Field) → Unfolds d fs → (before : List Field) (f : Field) (after : List Field)
+    → fs ≡ before ++ (f ∷ after)
     → (typeOf (f .code) ≡ some (f .type)) × ((a b : ℕ) × Allowed (f .code) 0 (f .mode) a b × (f .size ≡ sizeOf (ruleOf (f .type) .sizes) a b))
-lengths-allowed d n e before f after k = let g = good-at before f after (rw k at (fields-good d n e)) in (g .typed, field-allowed f g)
+lengths-allowed d n e fs u before f after k = let g = good-at before f after (rw k at (unfolding-good d n e fs u)) in (g .typed, field-allowed f g)
 
--- A list call accepts a block only if its bytes are the items of the unfolding by the standard's account, one after the other and nothing behind,
-pub accepted-is-block : (d s old new : List ℕ) → list d s old ≡ ok new → (xs : List Parts) × Block (unfolded d) xs s
-unfolding list
-accepted-is-block d s old new e =
-    let (_, a) = ok-reject (oversize d s) 1 0 _ new e in
-    let (n, _, b) = ok-bind (check d) (λ n. reject (ltb (length old) (2 + 2 * n)) 12 0 >> (walk (unfolded d) s >>= (λ ns. ok (itemList n (length s) ns old)))) new a in
-    let (_, c) = ok-reject (ltb (length old) (2 + 2 * n)) 12 0 _ new b in
-    let (ns, w, _) = ok-bind (walk (unfolded d) s) (λ ns. ok (itemList n (length s) ns old)) new c in
-    let x = walk-sound (unfolded d) s ns w in
-    (x .parts, x .block)
+-- A list call accepts a block only if its bytes are the items of the unfolding by the standard's account, one after the other and nothing behind; with rows
+-- to the end of the unfolding with some number of passes, at most 4,096 items,
+pub accepted-unfolds : (d s old new : List ℕ) → list d s old ≡ ok new → (fs : List Field) × Unfolds d fs × (length fs ≤ 4096) × ((xs : List Parts) × Block fs xs s)
+accepted-unfolds d s old new e =
+    let (n, ns, c, w, _) = list-keeps d s old new e in
+    let x = walked-by d n c s ns w in
+    let b = walk-sound (x .fields) s ns (x .walks) in
+    (x .fields, x .unfolds, omega (arith, x .few, item-count (x .fields) s ns (x .walks)), (b .parts, b .block))
 
-module _ (d s : List ℕ) (n : ℕ) (accepts : check d ≡ ok n) (few : length s ≤ 32768) (xs : List Parts) (b : Block (unfolded d) xs s) where
-  -- and it accepts each such block.
-  pub block-is-accepted : (old : List ℕ) → 2 + 2 * n ≤ length old → list d s old ≡ ok (itemList n (length s) (notesOf 0 (unfolded d) xs) old)
-  block-is-accepted old room = rw (list-walks d s n accepts few old room, walk-complete (unfolded d) xs s b)
+pub accepted-is-block : (d s old new : List ℕ) → repeated d ≡ none → list d s old ≡ ok new → (xs : List Parts) × Block (unfolded d) xs s
+accepted-is-block d s old new plain e =
+    let (n, ns, c, w, _) = list-keeps d s old new e in
+    let x = walked-by d n c s ns w in
+    let b = walk-sound (unfolded d) s ns (rw (x .plain plain) at (x .walks)) in
+    (b .parts, b .block)
 
-  module _ (k : ℕ) (f : Field) (x : Parts) (a : getElem? (unfolded d) k ≡ some f) (c : getElem? xs k ≡ some x) where
+module _ (d s : List ℕ) (n : ℕ) (accepts : check d ≡ ok n) (few : length s ≤ 32768) where
+  -- and it accepts each such block,
+  pub block-is-accepted : repeated d ≡ none → (xs : List Parts) → Block (unfolded d) xs s → (old : List ℕ) → 2 + 2 * n ≤ length old
+      → list d s old ≡ ok (itemList n (length s) (notesOf 0 (unfolded d) xs) old)
+  block-is-accepted plain xs b old room = rw (list-walks d s n accepts few plain old room, walk-complete (unfolded d) xs s b)
+
+  module _ (rows : List Field) (repeats : repeated d ≡ some rows) where
+    pub passes-are-accepted : (j : ℕ) (xs : List Parts) → Block (withPasses (unfolded d) rows j) xs s → length (withPasses (unfolded d) rows j) ≤ 4096
+        → (old : List ℕ) → 2 + 2 * length (withPasses (unfolded d) rows j) ≤ length old
+        → list d s old
+        ≡ ok (itemList (length (withPasses (unfolded d) rows j)) (length s) (notesOf 0 (withPasses (unfolded d) rows j) xs) old)
+    passes-are-accepted j xs b l old room =
+        let fs = withPasses (unfolded d) rows j in
+        let w : walkRows (unfolded d) rows s ≡ ok (notesOf 0 fs xs) =
+        sym (walks-rows d s n accepts few rows repeats) ∙ block-walked d n accepts s fs (and-passes j repeats) xs b l in
+        let c : length (notesOf 0 fs xs) ≡ length fs = notes-number 0 b in
+        rw (list-walks-rows d s n accepts few rows repeats old, w, c, le-ltb (length old) (2 + 2 * length fs) room)
+
+    -- in one way only: no other number of passes has these bytes.
+    pub one-number-of-passes : (i j : ℕ) (xs ys : List Parts) → Block (withPasses (unfolded d) rows i) xs s → Block (withPasses (unfolded d) rows j) ys s → i ≡ j
+    one-number-of-passes i j xs ys a b =
+        one-number (unfolded d) rows s (rows-good d n accepts rows repeats) (not-endless d n accepts rows repeats) i j xs ys a b
+
+-- Each item of such a block, fs being the unfolding, with rows to the end with some number of passes:
+module _ (d s : List ℕ) (n : ℕ) (accepts : check d ≡ ok n) (few : length s ≤ 32768) (fs : List Field) (unfolds : Unfolds d fs) (most : length fs ≤ 4096)
+    (xs : List Parts) (b : Block fs xs s) where
+  module _ (k : ℕ) (f : Field) (x : Parts) (a : getElem? fs k ≡ some f) (c : getElem? xs k ≡ some x) where
     item-is : (itemAt d s k ≡ ok (noteOfParts (startOf xs k) f x)) × (valueOf s (noteOfParts (startOf xs k) f x) ≡ x .value)
     item-is =
-        let v = note-of-part 0 (unfolded d) xs s s b refl k f x a c in
+        let v = note-of-part 0 fs xs s s b refl k f x a c in
         let e : 0 + startOf xs k ≡ startOf xs k = omega arith in
-        (rw (item-walks d s n accepts few k, walk-complete (unfolded d) xs s b, v .0, e), rw e at (v .1))
+        (rw (item-walks d s n accepts few k, block-walked d n accepts s fs unfolds xs b most, v .0, e), rw e at (v .1))
 
     -- Item k has the null mark, the value and the length of its part, the type code of its field, and the whole number that the type reads from the
     -- value; 18 stands at its start, behind the parts before it.

@@ -11,17 +11,17 @@ use mathlib.Core.Option.{Option, none, some}
 use lib.Dec.{ltb, eqb}
 use borrow.Author.Tests.{not-false}
 use lib.ListN.{length, drop, replicate, getElem?}
-use Rattle.fdoca.specs.Basics.{if_then_else_, elem, lookup, repeat, product, ok, _>>=_, _>>_, the}
+use Rattle.fdoca.specs.Basics.{if_then_else_, elem, lookup, isEmpty, repeat, product, Result, ok, _>>=_, _>>_, the}
 use Rattle.fdoca.specs.FieldType.{FieldType, fixedBytes, variableBytes, terminatedBytes, shortBytes, integer, reversedInteger, packedDecimal, hexFloat, reversedFloat, binaryFloat, Layout, fixed, counted, terminated, Size, bytes, digits, Sizes, upTo, oneOf, digitsUpTo, sizeOf, allows, replaces, typeOf, ruleOf, nullable}
 use Rattle.fdoca.specs.Triplet.{Triplet, torn, triplet, triplets, Kind, RLO, GDA, Construct, SDA, ISD, CPT, grouped, constructOf, idOf, codeOf, parametersOf, extentsOf, Group, taken, factor, groupsOf}
 use Rattle.fdoca.specs.Item.{Field, fieldLength, Measured, refused, item, indicated, measureFixed, measureValue, measureNullable, measureItem, measure}
-use Rattle.fdoca.specs.Walk.{Note, itemLength, noteOf, with, cutFrom, walk}
+use Rattle.fdoca.specs.Walk.{Note, itemLength, noteOf, with, cutFrom, walk, coming, usedUp, itemThen, rowsFrom, walkRows, walkBy}
 use Rattle.fdoca.specs.Calls.{oversize, itemAt}
 use Rattle.fdoca.specs.Check as C
-use Rattle.fdoca.specs.Unfolding.{Described, array, row, fieldsOf, fieldsTaken, column, columnReferred, fieldsAdded, groupFields, addFields, fieldOf, Layouts, closeRow, closed, unfoldSDA, unfoldRow, unfoldCPT, unfoldConstruct, unfoldTriplet, unfoldTriplets, start, lastFields, unfolded}
+use Rattle.fdoca.specs.Unfolding.{Described, array, row, fieldsOf, fieldsTaken, fieldsReferred, column, columnReferred, fieldsAdded, groupFields, addFields, fieldOf, Layouts, closeRow, closed, unfoldSDA, unfoldRow, unfoldCPT, unfoldConstruct, unfoldTriplet, unfoldTriplets, start, lastFields, unfolded, lastGroup, rowsOf, rowsAtEnd, repeated}
 use Rattle.fdoca.proofs.Results.{IfOk, none-owed, holds, bind-all, reject-all, ok-of, both-all, always}
 use Rattle.fdoca.proofs.Tests.{by-test, by-le, and-left, and-right}
-use Rattle.fdoca.specs.Reasons.{Allowed}
+use Rattle.fdoca.specs.Reasons.{Allowed, Unfolds, as-it-is, and-passes}
 use Rattle.fdoca.specs.Between.{entry, entries, rowCounted, state}
 use Rattle.fdoca.proofs.TypeRows.{good-parts, rule-allows}
 use Rattle.fdoca.proofs.Count.{entry?, lookup-entries, Fitting, single, fitting, closed-state, check-triplet}
@@ -42,7 +42,7 @@ pub data AllGood : List Field → Type 0 where
   nil : AllGood []
   cons : {f : Field} {fs : List Field} → GoodField f → AllGood fs → AllGood (f ∷ fs)
 
-good-append : {fs gs : List Field} → AllGood fs → AllGood gs → AllGood (fs ++ gs)
+pub good-append : {fs gs : List Field} → AllGood fs → AllGood gs → AllGood (fs ++ gs)
 good-append nil b = b
 good-append (cons g a) b = cons g (good-append a b)
 
@@ -54,7 +54,7 @@ good-replicate : (n : ℕ) (f : Field) → GoodField f → AllGood (replicate n 
 good-replicate zero f g = nil
 good-replicate (suc n) f g = cons g (good-replicate n f g)
 
-good-repeat : (n : ℕ) (l : List Field) → AllGood l → AllGood (repeat n l)
+pub good-repeat : (n : ℕ) (l : List Field) → AllGood l → AllGood (repeat n l)
 good-repeat zero l a = nil
 good-repeat (suc n) l a = good-append a (good-repeat n l a)
 
@@ -141,24 +141,27 @@ good-replaced f a b g h = record { typed = g .typed; allowed = go (replaces a b)
 good-column : (x : Group) (D : Described) → Good D → Fitting x D → AllGood (columnReferred x (some D))
 good-column x (array f []) g (single h) = cons (good-replaced f (x .byte1) (x .byte2) g h) nil
 
-good-added : (kind : Kind) (p : ℕ) (x : Group) (D : Described) → Good D → IfOk (λ k. AllGood (fieldsAdded kind x (some D))) (C.countAdded kind p x (entry D))
+good-added : (kind : Kind) (ends : Bool) (p : ℕ) (x : Group) (D : Described) → Good D
+    → IfOk (λ k. AllGood (fieldsAdded kind x (some D))) (C.countAdded kind ends p x (entry D))
 unfolding C.countAdded
-good-added RLO p x D g = always _ (good-repeat (factor x) _ (good-taken (taken x) D g))
-good-added GDA p x D g = reject-all (not (C.fits x (entry D))) 21 p (λ h. holds (good-column x D g (fitting x D h)))
+good-added RLO ends p x D g = always _ (good-repeat (factor x) _ (good-taken (taken x) D g))
+good-added GDA ends p x D g = reject-all (not (C.fits x (entry D))) 21 p (λ h. holds (good-column x D g (fitting x D h)))
 
-good-group : (kind : Kind) (p n : ℕ) (x : Group) (o : Option Described) → GoodFound o → IfOk (λ m. AllGood (fieldsAdded kind x o)) (C.addGroup kind p n x (entry? o))
+good-group : (kind : Kind) (ends : Bool) (p n : ℕ) (x : Group) (o : Option Described) → GoodFound o
+    → IfOk (λ m. AllGood (fieldsAdded kind x o)) (C.addGroup kind ends p n x (entry? o))
 unfolding C.addGroup
-good-group kind p n x none g = none-owed
-good-group kind p n x (some D) g = bind-all (C.countAdded kind p x (entry D)) (good-added kind p x D g) (λ k a. always _ a)
+good-group kind ends p n x none g = none-owed
+good-group kind ends p n x (some D) g = bind-all (C.countAdded kind ends p x (entry D)) (good-added kind ends p x D g) (λ k a. always _ a)
 
-good-add : (kind : Kind) (p n : ℕ) (ds : List (ℕ × Described)) (l : List Field) (gs : List Group) → GoodIds ds → AllGood l
-    → IfOk (λ m. AllGood (addFields kind ds l gs)) (C.addGroups kind p (entries ds) n gs)
+good-add : (kind : Kind) (last : Bool) (p n : ℕ) (ds : List (ℕ × Described)) (l : List Field) (gs : List Group) → GoodIds ds → AllGood l
+    → IfOk (λ m. AllGood (addFields kind ds l gs)) (C.addGroups kind last p (entries ds) n gs)
 unfolding C.addGroups addFields
-good-add kind p n ds l [] g a = holds a
-good-add kind p n ds l (x ∷ gs) g a =
+good-add kind last p n ds l [] g a = holds a
+good-add kind last p n ds l (x ∷ gs) g a =
     rw (lookup-entries (x .ref) ds)
-    (bind-all (C.addGroup kind p n x (entry? (lookup (x .ref) ds))) (good-group kind p n x (lookup (x .ref) ds) (good-found (x .ref) ds g))
-    (λ m b. good-add kind p m ds (l ++ groupFields kind ds x) gs g (good-append a b)))
+    (bind-all (C.addGroup kind (last && isEmpty gs) p n x (entry? (lookup (x .ref) ds)))
+    (good-group kind (last && isEmpty gs) p n x (lookup (x .ref) ds) (good-found (x .ref) ds g))
+    (λ m b. good-add kind last p m ds (l ++ groupFields kind ds x) gs g (good-append a b)))
 
 -- the parts of a good SDA
 pub good-SDA : (t : List ℕ) (T : FieldType) → typeOf (codeOf t) ≡ some T → C.goodSDA t ≡ true → GoodField (fieldOf T t)
@@ -180,70 +183,101 @@ good-unfold-SDA u p t (some T) e g =
     record { ids = one-more f (good-closed u g); at-hand = tt } in
     always _ k))
 
-good-unfold-row : (kind : Kind) (u : Layouts) (p : ℕ) (t : List ℕ) → GoodLayouts u
-    → IfOk (λ st. GoodLayouts (unfoldRow kind u t)) (C.checkRow kind (entries (closed u)) p t)
+good-unfold-row : (kind : Kind) (last : Bool) (u : Layouts) (p : ℕ) (t : List ℕ) → GoodLayouts u
+    → IfOk (λ st. GoodLayouts (unfoldRow kind u t)) (C.checkRow kind last (entries (closed u)) p t)
 unfolding C.checkRow unfoldRow
-good-unfold-row kind u p t g =
+good-unfold-row kind last u p t g =
     reject-all (not (C.goodLengthRow t)) 5 p
     (λ h. reject-all (eqb (idOf t) 0) 6 p
     (λ h₁. reject-all (C.isDescribed (idOf t) (entries (closed u))) 7 p
-    (λ h₂. bind-all (C.addGroups kind p (entries (closed u)) 0 (groupsOf t)) (good-add kind p 0 (closed u) [] (groupsOf t) (good-closed u g) nil)
+    (λ h₂. bind-all (C.addGroups kind last p (entries (closed u)) 0 (groupsOf t)) (good-add kind last p 0 (closed u) [] (groupsOf t) (good-closed u g) nil)
     (λ n a. let k : GoodLayouts (record { described = closed u; current = some (idOf t, addFields kind (closed u) [] (groupsOf t), kind) }) =
     record { ids = good-closed u g; at-hand = a } in
     holds k))))
 
-good-unfold-CPT : (u : Layouts) (p : ℕ) (t : List ℕ) (o : Option (ℕ × List Field × Kind)) → GoodRow o → GoodLayouts u
-    → IfOk (λ st. GoodLayouts (unfoldCPT o u t)) (C.checkCPT (record { described = entries (u .described); current = rowCounted o }) p t)
+good-unfold-CPT : (last : Bool) (u : Layouts) (p : ℕ) (t : List ℕ) (o : Option (ℕ × List Field × Kind)) → GoodRow o → GoodLayouts u
+    → IfOk (λ st. GoodLayouts (unfoldCPT o u t)) (C.checkCPT last (record { described = entries (u .described); current = rowCounted o }) p t)
 unfolding C.checkCPT unfoldCPT
-good-unfold-CPT u p t none k g = none-owed
-good-unfold-CPT u p t (some r) k g =
+good-unfold-CPT last u p t none k g = none-owed
+good-unfold-CPT last u p t (some r) k g =
     reject-all (not (C.goodLengthRow t)) 5 p
     (λ h. reject-all (not (eqb (idOf t) 0)) 6 p
-    (λ h₁. bind-all (C.addGroups (r .2) p (entries (u .described)) (length (r .1)) (groupsOf t)) (good-add (r .2) p (length (r .1)) (u .described) (r .1) (groupsOf t) (g .ids) k)
+    (λ h₁. bind-all (C.addGroups (r .2) last p (entries (u .described)) (length (r .1)) (groupsOf t)) (good-add (r .2) last p (length (r .1)) (u .described) (r .1) (groupsOf t) (g .ids) k)
     (λ n a. let q : GoodLayouts (record { described = u .described; current = some (r .0, addFields (r .2) (u .described) (r .1) (groupsOf t), r .2) }) =
     record { ids = g .ids; at-hand = a } in
     holds q)))
 
-good-construct : (c : Option Construct) (u : Layouts) (p : ℕ) (t : List ℕ) → GoodLayouts u
-    → IfOk (λ st. GoodLayouts (unfoldConstruct c u t)) (C.checkConstruct c (state u) p t)
+good-construct : (c : Option Construct) (last : Bool) (u : Layouts) (p : ℕ) (t : List ℕ) → GoodLayouts u
+    → IfOk (λ st. GoodLayouts (unfoldConstruct c u t)) (C.checkConstruct c last (state u) p t)
 unfolding C.checkConstruct unfoldConstruct
-good-construct none u p t g = none-owed
-good-construct (some SDA) u p t g = rw (closed-state u) (good-unfold-SDA u p t (typeOf (codeOf t)) refl g)
-good-construct (some (grouped kind)) u p t g = rw (closed-state u) (good-unfold-row kind u p t g)
-good-construct (some ISD) u p t g = always _ g
-good-construct (some CPT) u p t g = good-unfold-CPT u p t (u .current) (g .at-hand) g
+good-construct none last u p t g = none-owed
+good-construct (some SDA) last u p t g = rw (closed-state u) (good-unfold-SDA u p t (typeOf (codeOf t)) refl g)
+good-construct (some (grouped kind)) last u p t g = rw (closed-state u) (good-unfold-row kind last u p t g)
+good-construct (some ISD) last u p t g = always _ g
+good-construct (some CPT) last u p t g = good-unfold-CPT last u p t (u .current) (g .at-hand) g
 
-good-triplet : (u : Layouts) (t : Triplet) → GoodLayouts u → IfOk (λ st. GoodLayouts (unfoldTriplet u t)) (C.checkTriplet (state u) t)
+good-triplet : (last : Bool) (u : Layouts) (t : Triplet) → GoodLayouts u → IfOk (λ st. GoodLayouts (unfoldTriplet u t)) (C.checkTriplet last (state u) t)
 unfolding C.checkTriplet unfoldTriplet
-good-triplet u (torn p) g = none-owed
-good-triplet u (triplet p t) g = good-construct (constructOf t) u p t g
+good-triplet last u (torn p) g = none-owed
+good-triplet last u (triplet p t) g = good-construct (constructOf t) last u p t g
 
 good-triplets : (u : Layouts) (ts : List Triplet) → GoodLayouts u → IfOk (λ st. GoodLayouts (unfoldTriplets u ts)) (C.checkTriplets (state u) ts)
 unfolding C.checkTriplets unfoldTriplets
 good-triplets u [] g = holds g
 good-triplets u (t ∷ ts) g =
-    bind-all (C.checkTriplet (state u) t) (both-all (check-triplet u t) (good-triplet u t g))
+    bind-all (C.checkTriplet (isEmpty ts) (state u) t) (both-all (check-triplet (isEmpty ts) u t) (good-triplet (isEmpty ts) u t g))
     (λ st h. rw (h .0) (good-triplets (unfoldTriplet u t) ts (h .1)))
 
 good-last : (ds : List (ℕ × Described)) → GoodIds ds → AllGood (lastFields ds)
 good-last [] none-yet = nil
 good-last (c ∷ ds) (one-more g gs) = good-fields (c .1) g
 
-good-check : (d : List ℕ) → IfOk (λ n. AllGood (unfolded d)) (C.check d)
-unfolding C.check unfolded
+-- and so are those of a repeated layout
+abbrev GoodRepeated : Option (List Field) → Type 0
+GoodRepeated none = Unit {0}
+GoodRepeated (some rows) = AllGood rows
+
+good-referred : (k : ℕ) (o : Option Described) → GoodFound o → AllGood (fieldsReferred k o)
+good-referred k none g = nil
+good-referred k (some D) g = good-taken k D g
+
+good-rows : (u : Layouts) (x : Group) → GoodLayouts u → GoodRepeated (rowsAtEnd (u .current) (u .described) x)
+good-rows u x g = go (u .current)
+  where
+    by-factor : (b : Bool) → GoodRepeated (if b then some (fieldsReferred (taken x) (lookup (x .ref) (u .described))) else none)
+    by-factor true = good-referred (taken x) (lookup (x .ref) (u .described)) (good-found (x .ref) (u .described) (g .ids))
+    by-factor false = tt
+
+    by-kind : (kind : Kind) → GoodRepeated (rowsOf kind (u .described) x)
+    by-kind RLO = by-factor (eqb (factor x) 0)
+    by-kind GDA = tt
+
+    go : (o : Option (ℕ × List Field × Kind)) → GoodRepeated (rowsAtEnd o (u .described) x)
+    go none = tt
+    go (some r) = by-kind (r .2)
+
+good-check : (d : List ℕ) → IfOk (λ n. AllGood (unfolded d) × GoodRepeated (repeated d)) (C.check d)
+unfolding C.check unfolded repeated
 good-check d =
     reject-all (ltb C.maxDescriptor (length d)) 1 0
     (λ h. bind-all (C.checkTriplets C.begin (triplets d)) (good-triplets start (triplets d) (record { ids = none-yet; at-hand = tt }))
-    (λ st g. always (C.lastCount (length d) (C.closed st)) (good-last (closed (unfoldTriplets start (triplets d))) (good-closed _ g))))
+    (λ st g. always _ (good-last (closed (unfoldTriplets start (triplets d))) (good-closed _ g), good-rows (unfoldTriplets start (triplets d)) (lastGroup d) g)))
 
--- The fields of an accepted descriptor are good.
+-- The fields of an accepted descriptor are good, with those of its repeated layout.
 pub fields-good : (d : List ℕ) (n : ℕ) → C.check d ≡ ok n → AllGood (unfolded d)
-fields-good d n e = ok-of (rw e at (good-check d))
+fields-good d n e = ok-of (rw e at (good-check d)) .0
+
+pub rows-good : (d : List ℕ) (n : ℕ) → C.check d ≡ ok n → (rows : List Field) → repeated d ≡ some rows → AllGood rows
+rows-good d n e rows r = rw r at (ok-of (rw e at (good-check d)) .1)
+
+pub unfolding-good : (d : List ℕ) (n : ℕ) → C.check d ≡ ok n → (fs : List Field) → Unfolds d fs → AllGood fs
+unfolding-good d n e fs (as-it-is r) = fields-good d n e
+unfolding-good d n e fs (and-passes {rows = rows} j r) = good-append (fields-good d n e) (good-repeat j rows (rows-good d n e rows r))
 
 -- No field of an accepted descriptor has a mode other than 0 and 1.
-pub modes-known : (d : List ℕ) (n : ℕ) → C.check d ≡ ok n → (before : List Field) (f : Field) (after : List Field)
-    → unfolded d ≡ before ++ (f ∷ after) → (f .mode ≡ 0) ⊎ (f .mode ≡ 1)
-modes-known d n e before f after k = go (f .mode) (mode-known (good-at before f after (rw k at (fields-good d n e))))
+pub modes-known : (d : List ℕ) (n : ℕ) → C.check d ≡ ok n → (fs : List Field) → Unfolds d fs → (before : List Field) (f : Field) (after : List Field)
+    → fs ≡ before ++ (f ∷ after) → (f .mode ≡ 0) ⊎ (f .mode ≡ 1)
+modes-known d n e fs u before f after k = go (f .mode) (mode-known (good-at before f after (rw k at (unfolding-good d n e fs u))))
   where
     go : (m : ℕ) → m ≤ 1 → (m ≡ 0) ⊎ (m ≡ 1)
     go zero h = inl refl
@@ -329,6 +363,28 @@ unfolding walk
 good-walk fs s g =
     bind-all (cutFrom 0 fs s) (good-cut 0 fs s g) (λ c k. reject-all (ltb 0 (length (c .rest))) 16 (c .end) (λ h. holds k))
 
+good-then : (rows fs : List Field) (p : ℕ) (s : List ℕ) (others : Note → List Field → Result (List Note)) → AllGood fs
+    → ((n : Note) (left : List Field) → AllGood left → IfOk GoodNotes (others n left)) → IfOk GoodNotes (itemThen fs p s others)
+good-then rows [] p s others nil h = holds nil
+good-then rows (f ∷ fs) p s others (cons g gs) h =
+    bind-all (noteOf f p (measure f s)) (good-note f p (measure f s) g (fixed-item f s)) (λ n k. bind-all (others n fs) (h n fs gs) (λ ns ks. holds (cons k ks)))
+
+good-coming : {rows fs : List Field} → AllGood rows → AllGood fs → AllGood (coming rows fs)
+good-coming a nil = a
+good-coming a (cons g gs) = cons g gs
+
+good-rows-from : (room p : ℕ) (rows fs : List Field) (s : List ℕ) → AllGood rows → AllGood fs → IfOk GoodNotes (rowsFrom room p rows fs s)
+unfolding rowsFrom
+good-rows-from zero p rows fs s a g = by-test (IfOk GoodNotes) (usedUp fs s) (λ h. holds nil) (λ h. none-owed)
+good-rows-from (suc room) p rows fs s a g =
+    by-test (IfOk GoodNotes) (usedUp fs s) (λ h. holds nil)
+    (λ h. good-then rows (coming rows fs) p s _ (good-coming a g) (λ n left l. good-rows-from room (p + itemLength n) rows left (drop (itemLength n) s) a l))
+
+good-walk-by : (fs : List Field) (o : Option (List Field)) (s : List ℕ) → AllGood fs → GoodRepeated o → IfOk GoodNotes (walkBy fs o s)
+unfolding walkBy walkRows
+good-walk-by fs none s g r = good-walk fs s g
+good-walk-by fs (some rows) s g r = good-rows-from C.maxItems 0 rows fs s r g
+
 nth-good : (ns : List Note) (k : ℕ) → GoodNotes ns → IfOk GoodNote (the (getElem? ns k) 17 0)
 nth-good [] k nil = none-owed
 nth-good (n ∷ ns) zero (cons g gs) = holds g
@@ -339,7 +395,7 @@ unfolding itemAt
 good-item d s k =
     reject-all (oversize d s) 1 0
     (λ h. bind-all (C.check d) (good-check d)
-    (λ n g. bind-all (walk (unfolded d) s) (good-walk (unfolded d) s g) (λ ns w. nth-good ns k w)))
+    (λ n g. bind-all (walkBy (unfolded d) (repeated d) s) (good-walk-by (unfolded d) (repeated d) s (g .0) (g .1)) (λ ns w. nth-good ns k w)))
 
 -- The item that the calls tell of has a good field, and a value that the field can hold.
 pub item-good : (d s : List ℕ) (k : ℕ) (n : Note) → itemAt d s k ≡ ok n → GoodNote n

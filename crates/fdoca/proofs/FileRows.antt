@@ -10,33 +10,34 @@ use lib.Dec.{ltb, eqb}
 use lib.ListN.{length, take, drop, length-drop}
 use borrow.Author.Tests.{ltb-true, ltb-false, eqb-true, eqb-false, not-true, not-false}
 use Rattle.fdoca.specs.Basics.{if_then_else_, big, inBase, Result, _>>_, reject, ok}
-use Rattle.fdoca.specs.Walk.{Note, walk}
+use Rattle.fdoca.specs.Walk.{Note, walkBy}
 use Rattle.fdoca.specs.Check.{maxDescriptor, check}
-use Rattle.fdoca.specs.Unfolding.{unfolded}
+use Rattle.fdoca.specs.Unfolding.{unfolded, repeated}
 use Rattle.fdoca.specs.Calls.{maxData, oversize}
 use Rattle.fdoca.specs.Dump.{refusedLine, textOf, blockNotes, firstSize, secondSize, dump}
-use Rattle.fdoca.specs.Reasons.{byte, fourBytes, fileDescriptor, fileData, OfItems, OfDescriptor, OfBlock, descriptor, items, OfFile, under-8, other-length, here, further}
+use Rattle.fdoca.specs.Reasons.{byte, fourBytes, fileDescriptor, fileData, OfDescriptor, OfData, OfBlock, descriptor, data-of, OfFile, under-8, other-length, here, further}
 use Rattle.fdoca.proofs.Tests.{either-over, neither-over}
 use Rattle.fdoca.proofs.Results.{ok-bind, ok-reject}
 use Rattle.fdoca.proofs.TripletBytes.{two-at}
 use Rattle.fdoca.proofs.FirstReasons.{Told, Either, Once, once, Precedes, told-as, told-tested, reject-told}
-use Rattle.fdoca.proofs.CallRows.{block-from, by-turns, once-from, precedes-either, told-after, described-then, late-items, items-told, Sizes}
+use Rattle.fdoca.proofs.CallRows.{block-from, by-turns, once-from, precedes-either, told-after, described-then, late-data, Sizes}
+use Rattle.fdoca.proofs.Data.{data-told}
 
 -- the block of a descriptor and its data
 block-told : (d s : List ℕ) → Told (OfBlock d s) (blockNotes d s)
 unfolding blockNotes
-block-told d s = told-as to back (described-then d s (λ n. walk (unfolded d) s) late-items (λ n e. items-told d s n e))
+block-told d s = told-as to back (described-then d s (λ n. walkBy (unfolded d) (repeated d) s) late-data (λ n e. data-told d n e s))
   where
-    to : (t : List ℕ) (m p : ℕ) → Either (Sizes d s) (Either (OfDescriptor d) (OfItems (unfolded d) s)) t m p → OfBlock d s t m p
+    to : (t : List ℕ) (m p : ℕ) → Either (Sizes d s) (Either (OfDescriptor d) (OfData d s)) t m p → OfBlock d s t m p
     to t m p (inl (once (inl h))) = descriptor (OfDescriptor.oversize h)
     to t m p (inl (once (inr h))) = OfBlock.oversize h
     to t m p (inr (inl r)) = descriptor r
-    to t m p (inr (inr r)) = items r
+    to t m p (inr (inr r)) = data-of r
 
-    back : (t : List ℕ) (m p : ℕ) → OfBlock d s t m p → Either (Sizes d s) (Either (OfDescriptor d) (OfItems (unfolded d) s)) t m p
+    back : (t : List ℕ) (m p : ℕ) → OfBlock d s t m p → Either (Sizes d s) (Either (OfDescriptor d) (OfData d s)) t m p
     back t m p (descriptor r) = inr (inl r)
     back t m p (OfBlock.oversize h) = inl (once (inr h))
-    back t m p (items r) = inr (inr r)
+    back t m p (data-of r) = inr (inr r)
 
 -- a size of four bytes
 big-four : (a b c d : ℕ) → big (a ∷ b ∷ c ∷ d ∷ []) ≡ (a * 256 + b) * 65536 + (c * 256 + d)
@@ -136,7 +137,7 @@ module _ (f : List ℕ) where
       (λ h. ltb-true (length f) 8 h) (λ h l. (let z : ⊥ = omega (arith, ltb-false (length f) 8 h) in z)) (λ h. sizes-told (ltb-false (length f) 8 h)))
 
   -- what is listed is the walk over the file's descriptor and data
-  pub file-listed : (ns : List Note) → fileNotes ≡ ok ns → (walk (unfolded (fileDescriptor f)) (fileData f) ≡ ok ns) × (length (fileData f) ≡ secondSize f)
+  pub file-listed : (ns : List Note) → fileNotes ≡ ok ns → (walkBy (unfolded (fileDescriptor f)) (repeated (fileDescriptor f)) (fileData f) ≡ ok ns) × (length (fileData f) ≡ secondSize f)
   unfolding blockNotes
   file-listed ns e =
       let (a, b) = ok-reject (ltb (length f) 8) 19 0 _ ns e in
@@ -144,6 +145,6 @@ module _ (f : List ℕ) where
       let (g, h) = ok-reject misfits 19 0 _ ns c in
       let i : firstSize f ≡ fourBytes f 0 = first-size (ltb-false (length f) 8 a) in
       let (_, k) = ok-reject (oversize (fileDescriptor f) (fileData f)) 1 0 _ ns (rw i at h) in
-      let (_, _, l) = ok-bind (check (fileDescriptor f)) (λ n. walk (unfolded (fileDescriptor f)) (fileData f)) ns k in
+      let (_, _, l) = ok-bind (check (fileDescriptor f)) (λ n. walkBy (unfolded (fileDescriptor f)) (repeated (fileDescriptor f)) (fileData f)) ns k in
       let m : length f ≡ 8 + firstSize f + secondSize f = eqb-true (length f) (8 + firstSize f + secondSize f) (not-false _ g) in
       (l, omega (arith, length-drop (8 + fourBytes f 0) f))

@@ -4,23 +4,24 @@ use mathlib.Core.Path.{_≡_, refl, sym, _∙_}
 use mathlib.Core.Logic.{_≢_}
 use Prim.Native.Nat.{ℕ, zero, suc, _+_, _*_, _≤_, _<_}
 use native.Mathlib.Omega.{arith}
-use mathlib.Core.Bool.{Bool, true, false, not, true≢false}
+use mathlib.Core.Bool.{Bool, true, false, not, _&&_, true≢false}
 use mathlib.Core.List.{List, [], _∷_}
 use mathlib.Core.Option.{Option, none, some}
 use lib.Dec.{ltb, eqb}
-use lib.ListN.{drop}
+use lib.ListN.{length, drop}
 use borrow.Author.Tests.{ltb-true, ltb-false, eqb-true, eqb-false, lt-ltb}
-use Rattle.fdoca.specs.Basics.{if_then_else_, lookup, product, Result, ok, _>>=_, _>>_, reject, the}
+use Rattle.fdoca.specs.Basics.{if_then_else_, lookup, isEmpty, product, Result, ok, _>>=_, _>>_, reject, the}
 use Rattle.fdoca.specs.FieldType.{replaces, typeOf}
 use Rattle.fdoca.specs.Triplet.{Kind, RLO, GDA, threes}
 use Rattle.fdoca.specs.Check as C
 use Rattle.fdoca.specs.Check.{Entry, countOf, countTaken, suitsType, goodColumn, fits, maxItems, countAdded, addGroup, addGroups}
 use Rattle.fdoca.specs.Reasons as R
-use Rattle.fdoca.specs.Reasons.{place, LENGTH, byteOf, NotTorn, sda, rlo, gda, Is, HasGroups, InRow, reference, byte1, byte2, taken, factor, Refers, extent, Lower, Counts, single, array, row, Adds, kept, replaced, column, UpTo, group, missing, NotCarried, repetition-0, over-row, over-single, ColumnMisfit, no-SDA, has-extents, bad-length, OfTriplet, missing-reference, not-carried, column-misfit, too-many-up-to}
+use Rattle.fdoca.specs.Reasons.{place, LENGTH, byteOf, NotTorn, sda, rlo, gda, Is, HasGroups, InRow, reference, byte1, byte2, taken, factor, EndsDescriptor, Refers, extent, Lower, Counts, single, array, row, Adds, kept, replaced, column, UpTo, group, missing, NotCarried, repetition-0, over-row, over-single, ColumnMisfit, no-SDA, has-extents, bad-length, OfTriplet, missing-reference, not-carried, column-misfit, too-many-up-to}
+use Rattle.fdoca.proofs.Tests.{and-true, and-false}
 use Rattle.fdoca.proofs.TripletBytes.{bytesOf, groupOf, groups-from, groups-end}
 use Rattle.fdoca.proofs.TripletTests.{Tells, clash, row-clash}
 use Rattle.fdoca.proofs.Counting.{Unique, up-in-row, one-row, up-to-same, lower-long}
-use Rattle.fdoca.proofs.TripletRows.{Clear, Judged, refused, passed, clear-more, next-group, row-head, array-head, group-of, none-left}
+use Rattle.fdoca.proofs.TripletRows.{Clear, Judged, refused, passed, clear-more, next-group, no-10, row-head, array-head, group-of, none-left}
 use Rattle.fdoca.proofs.TypeRows.{type-suits, suits-type}
 
 -- What the check keeps of the SDA, RLO or GDA q.
@@ -74,9 +75,9 @@ module _ (d : List ℕ) (j : ℕ) (w : NotTorn d j) (r : ℕ) (in-row : InRow d 
     taken-of (suc a) (C.array c (y ∷ ys)) n l (of-array i m e) h = (i, lower-long m)
     taken-of (suc a) (C.row m) n l x h = absurd (let z : _≡_ {A = ℕ} 0 1 = cc in let w : ⊥ = omega arith in w)
 
-    -- a group with a repetition and with elements to take is carried
-    carried : (e : Entry) (n : ℕ) → EntryAt d q e → countTaken (taken d j k) e ≡ some n → factor d j k ≢ 0 → NotCarried d j k → ⊥
-    carried e n x h f (repetition-0 i b g z) = f z
+    -- a group with a repetition that is allowed and with elements to take is carried
+    carried : (e : Entry) (n : ℕ) → EntryAt d q e → countTaken (taken d j k) e ≡ some n → (factor d j k ≡ 0 → (EndsDescriptor d j k → ⊥) → ⊥) → NotCarried d j k → ⊥
+    carried e n x h f (repetition-0 i b g z o) = f z o
     carried e n x h f (over-row i b g l v c) = row-clash (rw (← same i v) at c) (taken-of (taken d j k) e n l x h .0) (omega arith) (omega arith)
     carried e n x h f (over-single i b g l v c z) = taken-of (taken d j k) e n l x h .1 (rw (← same i v) at z)
 
@@ -103,7 +104,7 @@ module _ (d : List ℕ) (j : ℕ) (w : NotTorn d j) (r : ℕ) (in-row : InRow d 
     fitting (C.row n) e f m = true≢false (sym f)
 
     -- the count with the group's items
-    counted : (n m : ℕ) → UpTo d r j k n → Adds d r j k m → Tells (ltb maxItems (n + m)) (OfTriplet d j (suc k) 10 10)
+    counted : (n m : ℕ) → UpTo d r j k n → Adds d r j k m → Tells (ltb maxItems (n + m)) (OfTriplet d j (suc k) 11 10)
     counted n m u a =
         record {
           yes = λ h. too-many-up-to (R.of-row (group u inside a) (ltb-true maxItems (n + m) h));
@@ -116,16 +117,16 @@ module _ (d : List ℕ) (j : ℕ) (w : NotTorn d j) (r : ℕ) (in-row : InRow d 
             let z : ⊥ = omega (arith, e) in
             z
 
-        few : n + m ≤ maxItems → OfTriplet d j (suc k) 10 10 → ⊥
+        few : n + m ≤ maxItems → OfTriplet d j (suc k) 11 10 → ⊥
         few l (too-many-up-to (R.of-row v g)) = too-many l v g
 
   -- one group
-  judge-group : (kind : Kind) → Is d (kindByte kind) r → (k n : ℕ) (o : Option Entry) → 6 + 3 * k ≤ LENGTH d j → lookup (reference d j k) es ≡ o → UpTo d r j k n
-      → Clear d j (suc k) 8 → {A : Type 0} {Q : A → Type 0} (f : ℕ → Result A) → ((m : ℕ) → UpTo d r j (suc k) m → Clear d j (suc k) 11 → Judged d j Q (f m))
-      → Judged d j Q (addGroup kind (place d j) n (groupOf d j w k) o >>= f)
+  judge-group : (kind : Kind) → Is d (kindByte kind) r → (ends : Bool) (k n : ℕ) (o : Option Entry) → Tells ends (EndsDescriptor d j k) → 6 + 3 * k ≤ LENGTH d j → lookup (reference d j k) es ≡ o → UpTo d r j k n
+      → Clear d j (suc k) 8 → {A : Type 0} {Q : A → Type 0} (f : ℕ → Result A) → ((m : ℕ) → UpTo d r j (suc k) m → Clear d j (suc k) 12 → Judged d j Q (f m))
+      → Judged d j Q (addGroup kind ends (place d j) n (groupOf d j w k) o >>= f)
   unfolding addGroup countAdded
-  judge-group kind head k n none inside e u c f next = refused refl (missing-reference (missing in-row inside (known .missed (reference d j k) e))) c
-  judge-group kind head k n (some x) inside e u c {A} {Q} f next = by-kind kind head
+  judge-group kind head ends k n none told inside e u c f next = refused refl (missing-reference (missing in-row inside (known .missed (reference d j k) e))) c
+  judge-group kind head ends k n (some x) told inside e u c {A} {Q} f next = by-kind kind head
     where
       q : ℕ
       q = known .found (reference d j k) x e .0
@@ -150,15 +151,15 @@ module _ (d : List ℕ) (j : ℕ) (w : NotTorn d j) (r : ℕ) (in-row : InRow d 
       fitting-9 i z m (not-carried v) = clash i (row-head in-row v) (omega arith)
       fitting-9 i z m (column-misfit v) = z v
 
-      number-10 : {m : ℕ} → OfTriplet d j (suc k) 10 m → OfTriplet d j (suc k) 10 10
+      number-10 : {m : ℕ} → OfTriplet d j (suc k) 11 m → OfTriplet d j (suc k) 11 10
       number-10 (too-many-up-to v) = too-many-up-to v
 
       by-count : (m : ℕ) (b : Bool) → ltb maxItems (n + m) ≡ b → Adds d r j k m → Clear d j (suc k) 10 → Judged d j Q ((reject b 10 (place d j) >> ok (n + m)) >>= f)
-      by-count m true h a l = refused refl (counted k inside q refers n m u a .yes h) l
-      by-count m false h a l = next (n + m) (group u inside a) (clear-more l (λ y v. counted k inside q refers n m u a .no h (number-10 v)))
+      by-count m true h a l = refused refl (counted k inside q refers n m u a .yes h) (clear-more l no-10)
+      by-count m false h a l = next (n + m) (group u inside a) (clear-more (clear-more l no-10) (λ y v. counted k inside q refers n m u a .no h (number-10 v)))
 
       -- an RLO's group
-      by-taken : (o : Option ℕ) → Is d rlo r → factor d j k ≢ 0 → countTaken (taken d j k) x ≡ o
+      by-taken : (o : Option ℕ) → Is d rlo r → (factor d j k ≡ 0 → (EndsDescriptor d j k → ⊥) → ⊥) → countTaken (taken d j k) x ≡ o
           → Judged d j Q
           (((the o 9 (place d j) >>= (λ m. ok (factor d j k * m))) >>= (λ m. reject (ltb maxItems (n + m)) 10 (place d j) >> ok (n + m))) >>= f)
       by-taken none i z h = refused refl (not-carried (taken-none k inside q refers (taken d j k) x i refl entry h)) clear-9
@@ -166,13 +167,14 @@ module _ (d : List ℕ) (j : ℕ) (w : NotTorn d j) (r : ℕ) (in-row : InRow d 
           by-count (factor d j k * m) (ltb maxItems (n + factor d j k * m)) refl (taken-some k inside q refers (taken d j k) x m i refl entry h)
           (clear-more clear-9 (carried-9 i (λ v. carried k inside q refers x m entry h z v)))
 
-      by-factor : (b : Bool) → Is d rlo r → eqb (factor d j k) 0 ≡ b
+      by-factor : (b y : Bool) → Is d rlo r → eqb (factor d j k) 0 ≡ b → ends ≡ y
           → Judged d j Q
-          (((reject b 9 (place d j) >> (the (countTaken (taken d j k) x) 9 (place d j) >>= (λ m. ok (factor d j k * m))))
+          (((reject (b && not y) 9 (place d j) >> (the (countTaken (taken d j k) x) 9 (place d j) >>= (λ m. ok (factor d j k * m))))
           >>= (λ m. reject (ltb maxItems (n + m)) 10 (place d j) >> ok (n + m)))
           >>= f)
-      by-factor true i h = refused refl (not-carried (repetition-0 in-row i inside (eqb-true (factor d j k) 0 h))) clear-9
-      by-factor false i h = by-taken (countTaken (taken d j k) x) i (eqb-false (factor d j k) 0 h) refl
+      by-factor true false i h z = refused refl (not-carried (repetition-0 in-row i inside (eqb-true (factor d j k) 0 h) (told .no z))) clear-9
+      by-factor true true i h z = by-taken (countTaken (taken d j k) x) i (λ a o. o (told .yes z)) refl
+      by-factor false y i h z = by-taken (countTaken (taken d j k) x) i (λ a o. eqb-false (factor d j k) 0 h a) refl
 
       -- a GDA's group
       by-fit : (b : Bool) → Is d gda r → fits (groupOf d j w k) x ≡ b
@@ -182,21 +184,31 @@ module _ (d : List ℕ) (j : ℕ) (w : NotTorn d j) (r : ℕ) (in-row : InRow d 
           by-count 1 (ltb maxItems (n + 1)) refl (column i) (clear-more clear-9 (fitting-9 i (fitting k inside q refers x entry h)))
       by-fit false i h = refused refl (column-misfit (misfits k inside q refers x i entry h)) clear-9
 
-      by-kind : (kind : Kind) → Is d (kindByte kind) r → Judged d j Q (addGroup kind (place d j) n (groupOf d j w k) (some x) >>= f)
-      by-kind RLO i = by-factor (eqb (factor d j k) 0) i refl
+      by-kind : (kind : Kind) → Is d (kindByte kind) r → Judged d j Q (addGroup kind ends (place d j) n (groupOf d j w k) (some x) >>= f)
+      by-kind RLO i = by-factor (eqb (factor d j k) 0) ends i refl refl
       by-kind GDA i = by-fit (fits (groupOf d j w k) x) i refl
 
-  -- The groups from number k on, m of them.
-  pub judge-groups : (kind : Kind) → Is d (kindByte kind) r → (m k n : ℕ) → LENGTH d j ≡ 3 + 3 * (k + m) → UpTo d r j k n → Clear d j k 11
-      → Judged d j (λ x. UpTo d r j (k + m) x) (addGroups kind (place d j) es n (threes (drop (3 + 3 * k) (bytesOf d j))))
-  unfolding addGroups
-  judge-groups kind head zero k n e u c =
-      let z : k + 0 ≡ k = omega arith in
-      let no-group : (i s m : ℕ) → k ≤ i → OfTriplet d j (suc i) s m → ⊥ = λ i s m h v. (let x : ⊥ = omega (arith, group-of v .0) in x) in
-      rw (groups-end d j w k (omega arith), z) (passed (none-left c no-group) u)
-  judge-groups kind head (suc m) k n e u c =
-      let z : k + suc m ≡ suc k + m = omega arith in
-      rw (groups-from d j w k (omega arith), z)
-      (judge-group kind head k n (lookup (reference d j k) es) (omega arith) refl u (next-group c)
-      (λ x. addGroups kind (place d j) es x (threes (drop (3 + 3 * suc k) (bytesOf d j))))
-      (λ x v l. judge-groups kind head m (suc k) x (omega arith) v l))
+  -- where triplet j may be the descriptor's last
+  module _ (last : Bool) (at-end : Tells last (place d j + LENGTH d j ≡ length d)) where
+    ends-told : (m k : ℕ) → LENGTH d j ≡ 3 + 3 * (k + suc m) → Tells (last && isEmpty (threes (drop (3 + 3 * suc k) (bytesOf d j)))) (EndsDescriptor d j k)
+    ends-told zero k e =
+        rw (groups-end d j w (suc k) (omega arith), and-true last)
+        (record { yes = λ h. omega (arith, at-end .yes h); no = λ h x. at-end .no h (omega arith) })
+    ends-told (suc m) k e =
+        rw (groups-from d j w (suc k) (omega arith), and-false last)
+        (record { yes = λ h. absurd (true≢false (sym h)); no = λ h x. (let z : ⊥ = omega (arith, w .fits) in z) })
+
+    -- The groups from number k on, m of them.
+    pub judge-groups : (kind : Kind) → Is d (kindByte kind) r → (m k n : ℕ) → LENGTH d j ≡ 3 + 3 * (k + m) → UpTo d r j k n → Clear d j k 12
+        → Judged d j (λ x. UpTo d r j (k + m) x) (addGroups kind last (place d j) es n (threes (drop (3 + 3 * k) (bytesOf d j))))
+    unfolding addGroups
+    judge-groups kind head zero k n e u c =
+        let z : k + 0 ≡ k = omega arith in
+        let no-group : (i s m : ℕ) → k ≤ i → OfTriplet d j (suc i) s m → ⊥ = λ i s m h v. (let x : ⊥ = omega (arith, group-of v .0) in x) in
+        rw (groups-end d j w k (omega arith), z) (passed (none-left c no-group) u)
+    judge-groups kind head (suc m) k n e u c =
+        let z : k + suc m ≡ suc k + m = omega arith in
+        rw (groups-from d j w k (omega arith), z)
+        (judge-group kind head _ k n (lookup (reference d j k) es) (ends-told m k e) (omega arith) refl u (next-group c)
+        (λ x. addGroups kind last (place d j) es x (threes (drop (3 + 3 * suc k) (bytesOf d j))))
+        (λ x v l. judge-groups kind head m (suc k) x (omega arith) v l))

@@ -23,10 +23,14 @@ pub mod TripletRows
 pub mod Groups
 pub mod TripletSteps
 pub mod FirstReasons
+pub mod Ending
 pub mod CheckRows
 pub mod ItemTests
 pub mod ItemRows
 pub mod BlockRows
+pub mod Rows
+pub mod RowReasons
+pub mod Data
 pub mod Packed
 pub mod CallRows
 pub mod PackedRows

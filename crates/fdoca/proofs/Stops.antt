@@ -27,7 +27,7 @@ pub record StopsAt (p : ℕ) (fs : List Field) (s : List ℕ) (n q : ℕ) : Type
   pub place : q ≡ good .end
   pub reason : measure field (good .rest) ≡ refused n
 
-abbrev Stops : ℕ → List Field → List ℕ → Result Cut → Type 0
+abbrev pub Stops : ℕ → List Field → List ℕ → Result Cut → Type 0
 Stops p fs s (refuse n q) = StopsAt p fs s n q
 Stops p fs s (ok c) = Unit {0}
 
@@ -60,7 +60,7 @@ stops-later p f fs s i n q e h =
       reason = h .reason;
     }
 
-stops : (p : ℕ) (fs : List Field) (s : List ℕ) → Stops p fs s (cutFrom p fs s)
+pub stops : (p : ℕ) (fs : List Field) (s : List ℕ) → Stops p fs s (cutFrom p fs s)
 unfolding cutFrom noteOf
 stops p [] s = tt
 stops p (f ∷ fs) s = go (measure f s) refl (λ q t. stops q fs t)

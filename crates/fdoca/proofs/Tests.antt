@@ -40,6 +40,14 @@ by-order {P} a b f g h = go (ltb a b) (ltb b a) refl refl
     go false false t u = g (omega (arith, ltb-false a b t, ltb-false b a u))
 
 -- both parts of a test that holds
+pub and-true : (b : Bool) → (b && true) ≡ b
+and-true true = refl
+and-true false = refl
+
+pub and-false : (b : Bool) → (b && false) ≡ false
+and-false true = refl
+and-false false = refl
+
 pub and-left : (a b : Bool) → (a && b) ≡ true → a ≡ true
 and-left true b h = refl
 and-left false b h = h

@@ -46,7 +46,7 @@ module _ {d : List ℕ} {j : ℕ} where
   by-row true t c k = refused refl (t .yes refl) c
   by-row false t c k = k refl (clear-more c (λ n r. t .no refl (rw (own-number r) at r)))
 
-  pub step-range : {g s m : ℕ} → OfTriplet d j g s m → (2 ≤ s) × (s ≤ 10) × (s ≤ m)
+  pub step-range : {g s m : ℕ} → OfTriplet d j g s m → (2 ≤ s) × (s ≤ 11) × (2 ≤ m)
   step-range (torn x) = omega arith
   step-range (unknown-construct x) = omega arith
   step-range (out-of-sequence x) = omega arith
@@ -66,10 +66,10 @@ module _ {d : List ℕ} {j : ℕ} where
   group-step (column-misfit x) = omega arith
   group-step (too-many-up-to x) = omega arith
 
-  pub next-group : {g : ℕ} → Clear d j g 11 → Clear d j (suc g) 8
+  pub next-group : {g : ℕ} → Clear d j g 12 → Clear d j (suc g) 8
   next-group {g} c h t n r = go (c h t n r)
     where
-      go : (g < h) ⊎ ((h ≡ g) × (11 ≤ t)) → (suc g < h) ⊎ ((h ≡ suc g) × (8 ≤ t))
+      go : (g < h) ⊎ ((h ≡ g) × (12 ≤ t)) → (suc g < h) ⊎ ((h ≡ suc g) × (8 ≤ t))
       go (inl l) =
           by-order (suc g) h (λ a. inl a) (λ e. inr (sym e, group-step (rw (← e) at r))) (λ a. absurd (let z : ⊥ = omega arith in z))
       go (inr q) = absurd (let z : ⊥ = omega (arith, q .1, step-range r .1) in z)
@@ -106,6 +106,16 @@ module _ {d : List ℕ} {j : ℕ} where
   pub row-10 : {n : ℕ} → OfTriplet d j 0 10 n → TooManyItems d j
   row-10 (too-many-items x) = x
 
+  -- a triplet's own last step is 10, and a group has no step between 9 and 11
+  pub own-clear : Clear d j 0 11 → Clear d j 0 12
+  own-clear c = clear-more c no-11
+    where
+      no-11 : (n : ℕ) → OfTriplet d j 0 11 n → ⊥
+      no-11 n x = elim x [ ]
+
+  pub no-10 : {k : ℕ} (n : ℕ) → OfTriplet d j (suc k) 10 n → ⊥
+  no-10 n x = elim x [ ]
+
   pub tells : {b : Bool} {P : Type 0} {m : ℕ} → (P → OfTriplet d j 0 m m) → (OfTriplet d j 0 m m → P) → Tells b P → Tells b (OfTriplet d j 0 m m)
   tells f back t = record { yes = λ h. f (t .yes h); no = λ h r. t .no h (back r) }
 
@@ -116,7 +126,7 @@ module _ {d : List ℕ} {j : ℕ} where
 
   -- 9 is told of an RLO's row, 21 of a GDA's
   pub row-head : {r k : ℕ} → InRow d r j → NotCarried d j k → Is d rlo r
-  row-head v (repetition-0 i h g e) = rw (one-row v i) h
+  row-head v (repetition-0 i h g e n) = rw (one-row v i) h
   row-head v (over-row i h g l f q) = rw (one-row v i) h
   row-head v (over-single i h g l f q e) = rw (one-row v i) h
 
@@ -133,7 +143,7 @@ module _ {d : List ℕ} {j : ℕ} where
   -- a group with a reason lies within triplet j, which belongs to a row
   pub group-of : {k s m : ℕ} → OfTriplet d j (suc k) s m → (6 + 3 * k ≤ LENGTH d j) × (HasGroups d j ⊎ Is d cpt j)
   group-of (missing-reference (missing i g n)) = (g, in-row-kind i)
-  group-of (not-carried (repetition-0 i h g e)) = (g, in-row-kind i)
+  group-of (not-carried (repetition-0 i h g e n)) = (g, in-row-kind i)
   group-of (not-carried (over-row i h g l f q)) = (g, in-row-kind i)
   group-of (not-carried (over-single i h g l f q e)) = (g, in-row-kind i)
   group-of (column-misfit (no-SDA i h g f n)) = (g, in-row-kind i)
@@ -161,10 +171,10 @@ module _ {d : List ℕ} {j : ℕ} where
   one-number (too-many-up-to x) (too-many-up-to y) = refl
 
   -- a triplet with no reason of its own and no group with one has none at all
-  pub none-left : {k : ℕ} → Clear d j k 11 → ((i s m : ℕ) → k ≤ i → OfTriplet d j (suc i) s m → ⊥) → (g s m : ℕ) → OfTriplet d j g s m → ⊥
+  pub none-left : {k : ℕ} → Clear d j k 12 → ((i s m : ℕ) → k ≤ i → OfTriplet d j (suc i) s m → ⊥) → (g s m : ℕ) → OfTriplet d j g s m → ⊥
   none-left {k} c no-group g s m r = go g r (c g s m r)
     where
-      go : (g : ℕ) → OfTriplet d j g s m → (k < g) ⊎ ((g ≡ k) × (11 ≤ s)) → ⊥
+      go : (g : ℕ) → OfTriplet d j g s m → (k < g) ⊎ ((g ≡ k) × (12 ≤ s)) → ⊥
       go zero r (inl l) = omega arith
       go (suc i) r (inl l) = no-group i s m (omega arith) r
       go g r (inr q) = let z : ⊥ = omega (arith, q .1, step-range r .1) in z

@@ -9,6 +9,7 @@ use native.Mathlib.Nat.{zero-add}
 use mathlib.Core.Bool.{Bool, true, false, not}
 use mathlib.Core.List.{List, [], _∷_}
 use mathlib.Core.Option.{Option, none, some}
+use lib.ListN.{length}
 use lib.Dec.{ltb, eqb}
 use borrow.Author.Tests.{ltb-true, ltb-false, eqb-true, eqb-false, not-true, not-false}
 use Rattle.fdoca.specs.Basics.{if_then_else_, lookup, isSome, product, Result, ok, _>>=_}
@@ -22,13 +23,13 @@ use Rattle.fdoca.proofs.TripletBytes.{bytesOf, byte-bytes}
 use Rattle.fdoca.proofs.Table.{looked-up}
 use Rattle.fdoca.proofs.TripletTests.{Tells, clash, row-clash, no-describer, Extents, none-there, one-there, two-there, three-there, extents-are, SDA-length, SDA-forms, SDA-long, SDA-parameters, row-form, row-length, row-parameters, CPT-parameters, ISD-length, ISD-forms, ISD-parameters}
 use Rattle.fdoca.proofs.Counting.{Unique, up-in-row, count-same}
-use Rattle.fdoca.proofs.TripletRows.{Clear, Judged, refused, passed, clear-more, by-row, row-4, row-5, row-6, row-7, no-8, no-9, row-10, tells, in-row-kind, group-of, none-left, whole-clear, known-clear}
+use Rattle.fdoca.proofs.TripletRows.{Clear, Judged, refused, passed, clear-more, by-row, row-4, row-5, row-6, row-7, no-8, no-9, row-10, own-clear, tells, in-row-kind, group-of, none-left, whole-clear, known-clear}
 use Rattle.fdoca.proofs.Groups.{EntryAt, of-single, of-array, of-row, entry-counts, kindByte, Known, judge-groups}
 
 -- What is kept of the row that a CPT may continue, before triplet j.
 pub data Current (d : List ℕ) (j : ℕ) (es : List (ℕ × Entry)) : Option (ℕ × ℕ × Kind) → Type 0 where
   no-row : Known d j es → ((i : ℕ) → j ≡ suc i → OneOf (byteOf d i 1) (rlo ∷ gda ∷ cpt ∷ []) → ⊥) → Current d j es none
-  open-row : {r i k id n : ℕ} {kind : Kind} → j ≡ suc i → Is d (kindByte kind) r → UpTo d r i k n → LENGTH d i ≡ 3 + 3 * k → byteOf d r 2 ≡ id → Known d r es
+  open-row : {r i k id n : ℕ} {kind : Kind} → j ≡ suc i → Is d (kindByte kind) r → UpTo d r i (suc k) n → LENGTH d i ≡ 3 + 3 * suc k → byteOf d r 2 ≡ id → Known d r es
       → Current d j es (some (id, n, kind))
 
 -- What the check knows before triplet j.
@@ -168,7 +169,7 @@ module _ (d : List ℕ) (j : ℕ) (there-is : There d j) (w : NotTorn d j) where
   in-sequence a b (CPT-after k e n) = a k
   in-sequence a b (ISD-later k e) = b k
 
-  module _ (st : State) (before : Before d j st) where
+  module _ (st : State) (before : Before d j st) (last : Bool) (at-end : Tells last (place d j + LENGTH d j ≡ length d)) where
     -- An SDA.
     module _ (is : Is d sda j) where
       SDA-known : Known d j (closed st)
@@ -212,7 +213,7 @@ module _ (d : List ℕ) (j : ℕ) (there-is : There d j) (w : NotTorn d j) where
           (λ h₅ c₆. by-row (not (goodSDA (bytesOf d j))) (tells bad-parameter row-6 (SDA-parameters d j w is (SDA-forms d j w is h₅))) c₆
           (λ h₆ c₇. by-row (isDescribed (idOf (bytesOf d j)) (closed st)) (SDA-named (SDA-forms d j w is h₅)) c₇
           (λ h₇ c₈. by-row (ltb maxItems (product (extentsOf (bytesOf d j)))) (SDA-counted (SDA-forms d j w is h₅)) (clear-more (clear-more c₈ no-8) no-9)
-          (λ h₁₀ c₁₁. passed (none-left c₁₁ (λ i s m k r. no-group (group-of r .1))) (SDA-next (SDA-forms d j w is h₅) h₇)))))
+          (λ h₁₀ c₁₁. passed (none-left (own-clear c₁₁) (λ i s m k r. no-group (group-of r .1))) (SDA-next (SDA-forms d j w is h₅) h₇)))))
         where
           no-group : HasGroups d j ⊎ Is d cpt j → ⊥
           no-group (inl i) = row-clash i is (omega arith) (omega arith)
@@ -244,17 +245,17 @@ module _ (d : List ℕ) (j : ℕ) (there-is : There d j) (w : NotTorn d j) where
 
         judge-rows : isDescribed (idOf (bytesOf d j)) (closed st) ≡ false → Clear d j 0 8
             → Judged d j (Before d (suc j))
-            (addGroups kind (place d j) (closed st) 0 (groupsOf (bytesOf d j)) >>= (λ n. ok (record { described = closed st; current = some (idOf (bytesOf d j), n, kind) })))
+            (addGroups kind last (place d j) (closed st) 0 (groupsOf (bytesOf d j)) >>= (λ n. ok (record { described = closed st; current = some (idOf (bytesOf d j), n, kind) })))
         judge-rows h c =
             bind-judged (λ n. record { described = closed st; current = some (idOf (bytesOf d j), n, kind) })
-            (judge-groups d j w j (record { head = is-row; behind = omega arith; continued = λ i a l. absurd (let z : ⊥ = omega arith in z) }) (before .unique) (closed st) row-known kind is (suc k) 0 0 (omega arith) (start is-row)
-            (clear-more (clear-more (clear-more c no-8) no-9) (λ n r. one-item (row-10 r))))
+            (judge-groups d j w j (record { head = is-row; behind = omega arith; continued = λ i a l. absurd (let z : ⊥ = omega arith in z) }) (before .unique) (closed st) row-known last at-end kind is (suc k) 0 0 (omega arith) (start is-row)
+            (own-clear (clear-more (clear-more (clear-more c no-8) no-9) (λ n r. one-item (row-10 r)))))
             (λ n u. row-next h (rw (zero-add (suc k)) at u))
           where
             one-item : TooManyItems d j → ⊥
             one-item (of-SDA i c l) = row-clash is-row i (omega arith) (omega arith)
 
-      judge-row : Judged d j (Before d (suc j)) (checkRow kind (closed st) (place d j) (bytesOf d j))
+      judge-row : Judged d j (Before d (suc j)) (checkRow kind last (closed st) (place d j) (bytesOf d j))
       unfolding checkRow
       judge-row =
           by-row (not (goodLengthRow (bytesOf d j))) (tells OfTriplet.bad-length row-5 (row-length d j w (kind-type kind is)))
@@ -288,7 +289,7 @@ module _ (d : List ℕ) (j : ℕ) (there-is : There d j) (w : NotTorn d j) where
           go zero e = CPT-first is e
           go (suc i) e = CPT-after is e (f i e)
 
-      CPT-next : {id r n k : ℕ} {kind : Kind} → byteOf d r 2 ≡ id → Is d (kindByte kind) r → Known d r (st .described) → LENGTH d j ≡ 3 + 3 * k → UpTo d r j k n
+      CPT-next : {id r n k : ℕ} {kind : Kind} → byteOf d r 2 ≡ id → Is d (kindByte kind) r → Known d r (st .described) → LENGTH d j ≡ 3 + 3 * suc k → UpTo d r j (suc k) n
           → Before d (suc j) (record { described = st .described; current = some (id, n, kind) })
       CPT-next t head k l u =
           record {
@@ -299,11 +300,11 @@ module _ (d : List ℕ) (j : ℕ) (there-is : There d j) (w : NotTorn d j) where
 
       judge-continued : {id n : ℕ} {kind : Kind} → Current d j (st .described) (some (id, n, kind)) → (k : ℕ) → LENGTH d j ≡ 6 + 3 * k → Clear d j 0 7
           → Judged d j (Before d (suc j))
-          (addGroups kind (place d j) (st .described) n (groupsOf (bytesOf d j)) >>= (λ m. ok (record { described = st .described; current = some (id, m, kind) })))
+          (addGroups kind last (place d j) (st .described) n (groupsOf (bytesOf d j)) >>= (λ m. ok (record { described = st .described; current = some (id, m, kind) })))
       judge-continued {id} {n} {kind} (open-row {r = r} {i = i} e head u l t known) k form c =
           bind-judged (λ m. record { described = st .described; current = some (id, m, kind) })
-          (judge-groups d j w r (up-in-row v) (λ x q y h g. before .unique x q y (omega (arith, up-in-row v .behind)) (omega (arith, up-in-row v .behind))) (st .described) known kind head (suc k) 0 n (omega arith) v
-          (clear-more (clear-more (clear-more (clear-more c (λ n x. no-name (row-7 x))) no-8) no-9) (λ n x. one-item (row-10 x))))
+          (judge-groups d j w r (up-in-row v) (λ x q y h g. before .unique x q y (omega (arith, up-in-row v .behind)) (omega (arith, up-in-row v .behind))) (st .described) known last at-end kind head (suc k) 0 n (omega arith) v
+          (own-clear (clear-more (clear-more (clear-more (clear-more c (λ n x. no-name (row-7 x))) no-8) no-9) (λ n x. one-item (row-10 x)))))
           (λ m x. CPT-next t head known (omega arith) (rw (zero-add (suc k)) at x))
         where
           v : UpTo d r j 0 n
@@ -316,7 +317,7 @@ module _ (d : List ℕ) (j : ℕ) (there-is : There d j) (w : NotTorn d j) where
           one-item (of-SDA i c l) = clash is i (omega arith)
 
       judge-current : (o : Option (ℕ × ℕ × Kind)) → Current d j (st .described) o
-          → Judged d j (Before d (suc j)) (checkCPT (record { described = st .described; current = o }) (place d j) (bytesOf d j))
+          → Judged d j (Before d (suc j)) (checkCPT last (record { described = st .described; current = o }) (place d j) (bytesOf d j))
       unfolding checkCPT
       judge-current none h = refused refl (out-of-sequence (CPT-none h)) CPT-clear
       judge-current (some (id, n, kind)) h =
@@ -329,7 +330,7 @@ module _ (d : List ℕ) (j : ℕ) (there-is : There d j) (w : NotTorn d j) where
           placed : Current d j (st .described) (some (id, n, kind)) → OutOfSequence d j → ⊥
           placed (open-row e head u l t known) = CPT-placed e (up-in-row u)
 
-      judge-CPT : Judged d j (Before d (suc j)) (checkCPT st (place d j) (bytesOf d j))
+      judge-CPT : Judged d j (Before d (suc j)) (checkCPT last st (place d j) (bytesOf d j))
       judge-CPT = judge-current (st .current) (before .current)
 
     -- An ISD is the first triplet.
@@ -371,7 +372,7 @@ module _ (d : List ℕ) (j : ℕ) (there-is : There d j) (w : NotTorn d j) where
           (λ h₄ c₅. by-row (not (goodLengthISD (bytesOf d j))) (tells OfTriplet.bad-length row-5 (ISD-length d j w is)) c₅
           (λ h₅ c₆. by-row (not (goodISD (bytesOf d j))) (tells bad-parameter row-6 (ISD-parameters d j w is (ISD-forms d j w is h₅))) c₆
           (λ h₆ c₇. passed
-          (none-left (clear-more (clear-more (clear-more (clear-more c₇ (λ n x. no-name (row-7 x))) no-8) no-9) (λ n x. one-item (row-10 x)))
+          (none-left (own-clear (clear-more (clear-more (clear-more (clear-more c₇ (λ n x. no-name (row-7 x))) no-8) no-9) (λ n x. one-item (row-10 x))))
           (λ i s m k r. no-group (group-of r .1)))
           (ISD-next (ISD-first (eqb-true (place d j) 0 (not-false (eqb (place d j) 0) h₄)))))))
         where
@@ -399,7 +400,7 @@ module _ (d : List ℕ) (j : ℕ) (there-is : There d j) (w : NotTorn d j) where
         let y : ⊥ = omega arith in
         y
 
-    judge-construct : (o : Option Construct) → constructOf (bytesOf d j) ≡ o → Judged d j (Before d (suc j)) (checkConstruct o st (place d j) (bytesOf d j))
+    judge-construct : (o : Option Construct) → constructOf (bytesOf d j) ≡ o → Judged d j (Before d (suc j)) (checkConstruct o last st (place d j) (bytesOf d j))
     unfolding checkConstruct
     judge-construct none e = refused refl (unknown-construct (record { not-carried = not-one e })) (whole-clear w)
     judge-construct (some T.SDA) e = judge-SDA (is-of e)
@@ -408,6 +409,6 @@ module _ (d : List ℕ) (j : ℕ) (there-is : There d j) (w : NotTorn d j) where
     judge-construct (some T.CPT) e = judge-CPT (is-of e)
 
     -- A whole triplet.
-    pub judge-triplet : Judged d j (Before d (suc j)) (checkTriplet st (T.triplet (place d j) (bytesOf d j)))
+    pub judge-triplet : Judged d j (Before d (suc j)) (checkTriplet last st (T.triplet (place d j) (bytesOf d j)))
     unfolding checkTriplet
     judge-triplet = judge-construct (constructOf (bytesOf d j)) refl

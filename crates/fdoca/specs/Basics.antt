@@ -40,6 +40,10 @@ module _ {A : Type 0} where
   isSome none = false
   isSome (some a) = true
 
+  abbrev pub isEmpty : List A → Bool
+  isEmpty [] = true
+  isEmpty (a ∷ l) = false
+
   -- A list, n times over.
   abbrev pub repeat : ℕ → List A → List A
   repeat zero l = []

@@ -1,6 +1,7 @@
--- What the calls give (document 01, "What the reader carries", "Numbers a caller can meet", "The item list and the dump program"; document 02, Q-1).
+-- What the calls give (document 01, "What the reader carries", "Numbers a caller can meet", "The item list and the dump program"; document 02, Q-1 and
+-- Q-5).
 use Prim.Native.Nat.{ℕ, _+_, _*_, _^_}
-use mathlib.Core.Bool.{Bool, false, _||_}
+use mathlib.Core.Bool.{Bool, false, _&&_, _||_, not}
 use mathlib.Core.List.{List, [], _∷_, _++_, map, reverse}
 use mathlib.Core.Option.{Option, none, some}
 use lib.Dec.{ltb}
@@ -11,11 +12,11 @@ use Rattle.fdoca.specs.declared.Listed.{Listed}
 use Rattle.fdoca.specs.declared.State.{State}
 use Rattle.fdoca.specs.declared.Whole.{Whole}
 use Rattle.fdoca.specs.declared.Decimal.{Decimal}
-use Rattle.fdoca.specs.Basics.{if_then_else_, big, Result, refuse, ok, _>>=_, _>>_, reject, the}
+use Rattle.fdoca.specs.Basics.{if_then_else_, isSome, big, Result, refuse, ok, _>>=_, _>>_, reject, the}
 use Rattle.fdoca.specs.FieldType.{FieldType, fixedBytes, variableBytes, terminatedBytes, shortBytes, integer, reversedInteger, packedDecimal, hexFloat, reversedFloat, binaryFloat, Size, bytes, digits}
-use Rattle.fdoca.specs.Walk.{Note, walk}
+use Rattle.fdoca.specs.Walk.{Note, walkBy}
 use Rattle.fdoca.specs.Check.{check, maxDescriptor}
-use Rattle.fdoca.specs.Unfolding.{unfolded}
+use Rattle.fdoca.specs.Unfolding.{unfolded, repeated}
 use Rattle.fdoca.specs.Packed.{packedNumber}
 
 abbrev pub maxData : ℕ
@@ -29,21 +30,26 @@ oversize d s = ltb maxDescriptor (length d) || ltb maxData (length s)
 abbrev pub itemList : (n size : ℕ) → List Note → List ℕ → List ℕ
 itemList n size ns old = n ∷ size ∷ map (λ i. i .start) ns ++ map (λ i. i .field .id) ns ++ drop (2 + 2 * n) old
 
--- The list call: the caller's list afterwards, or the refusal.
+-- A list of so many entries is small: under 2 + 2n for n items.
+abbrev pub small : (entries n : ℕ) → Bool
+small entries n = ltb entries (2 + 2 * n)
+
+-- The list call: the caller's list afterwards, or the refusal. 12 comes before the items; with rows to the end n is theirs, and 12 comes after them.
 unfoldable pub list : List ℕ → List ℕ → List ℕ → Result (List ℕ)
 list d s old = do
   reject (oversize d s) 1 0
   n ← check d
-  reject (ltb (length old) (2 + 2 * n)) 12 0
-  ns ← walk (unfolded d) s
-  ok (itemList n (length s) ns old)
+  reject (not (isSome (repeated d)) && small (length old) n) 12 0
+  ns ← walkBy (unfolded d) (repeated d) s
+  reject (small (length old) (length ns)) 12 0
+  ok (itemList (length ns) (length s) ns old)
 
 -- The note of item k, numbered from 0: what the state call, lending and the reads of numbers go by.
 unfoldable pub itemAt : List ℕ → List ℕ → (k : ℕ) → Result Note
 itemAt d s k = do
   reject (oversize d s) 1 0
   n ← check d
-  ns ← walk (unfolded d) s
+  ns ← walkBy (unfolded d) (repeated d) s
   the (getElem? ns k) 17 0
 
 -- The bytes of an item's value: the part of the data that holds it.

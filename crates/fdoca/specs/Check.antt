@@ -1,13 +1,15 @@
--- The check of a descriptor (document 01, "Numbers a caller can meet"; document 02, Q-4): the first reason to refuse it, or its item count.
+-- The check of a descriptor (document 01, "Numbers a caller can meet"; document 02, Q-4 and Q-5): the first reason to refuse it, or its item count.
 use Prim.Native.Nat.{ℕ, zero, suc, _+_, _*_, _%_}
 use mathlib.Core.Bool.{Bool, true, false, _&&_, not}
 use mathlib.Core.List.{List, [], _∷_}
 use mathlib.Core.Option.{Option, none, some}
 use lib.Dec.{leb, ltb, eqb}
 use lib.ListN.{length, getD}
-use Rattle.fdoca.specs.Basics.{if_then_else_, elem, lookup, isSome, product, Result, refuse, ok, _>>=_, _>>_, reject, the}
+use Rattle.fdoca.specs.Basics.{if_then_else_, elem, lookup, isSome, isEmpty, product, Result, refuse, ok, _>>=_, _>>_, reject, the}
 use Rattle.fdoca.specs.FieldType.{FieldType, Rule, allows, replaces, suits, typeOf, ruleOf}
-use Rattle.fdoca.specs.Triplet.{Triplet, torn, triplet, triplets, Kind, RLO, GDA, Construct, SDA, ISD, CPT, grouped, constructOf, idOf, codeOf, parametersOf, modeOf, sizeIn, biasOf, extentsOf, Group, taken, factor, groupsOf, subsetOf, versionOf}
+use Rattle.fdoca.specs.Triplet.{Triplet, torn, triplet, triplets, lastPlace, Kind, RLO, GDA, Construct, SDA, ISD, CPT, grouped, constructOf, idOf, codeOf, parametersOf, modeOf, sizeIn, biasOf, extentsOf, Group, taken, factor, groupsOf, subsetOf, versionOf}
+use Rattle.fdoca.specs.Item.{Field}
+use Rattle.fdoca.specs.Unfolding.{repeated, endless}
 
 abbrev pub maxDescriptor : ℕ
 maxDescriptor = 4096
@@ -65,27 +67,29 @@ abbrev pub isDescribed : ℕ → List (ℕ × Entry) → Bool
 isDescribed i es = isSome (lookup i es)
 
 -- How many items a group adds, at its triplet's place p, with the entry that it refers to: in an RLO as many as it takes, repeated by the factor; in
--- a GDA one.
-unfoldable pub countAdded : Kind → (p : ℕ) → Group → Entry → Result ℕ
-countAdded RLO p g e = do
-  reject (eqb (factor g) 0) 9 p
+-- a GDA one. The factor may be 0 where the group's bytes end the descriptor (Q-5): the group then adds nothing.
+unfoldable pub countAdded : Kind → (ends : Bool) → (p : ℕ) → Group → Entry → Result ℕ
+countAdded RLO ends p g e = do
+  reject (eqb (factor g) 0 && not ends) 9 p
   k ← the (countTaken (taken g) e) 9 p
   ok (factor g * k)
-countAdded GDA p g e = do
+countAdded GDA ends p g e = do
   reject (not (fits g e)) 21 p
   ok 1
 
 -- One group of an RLO or GDA that counts n items so far.
-unfoldable pub addGroup : Kind → (p n : ℕ) → Group → Option Entry → Result ℕ
-addGroup kind p n g r = do
+unfoldable pub addGroup : Kind → (ends : Bool) → (p n : ℕ) → Group → Option Entry → Result ℕ
+addGroup kind ends p n g r = do
   e ← the r 8 p
-  k ← countAdded kind p g e
+  k ← countAdded kind ends p g e
   reject (ltb maxItems (n + k)) 10 p
   ok (n + k)
 
-unfoldable pub addGroups : Kind → (p : ℕ) → List (ℕ × Entry) → (n : ℕ) → List Group → Result ℕ
-addGroups kind p es n [] = ok n
-addGroups kind p es n (g ∷ gs) = addGroup kind p n g (lookup (g .ref) es) >>= (λ m. addGroups kind p es m gs)
+-- The groups of a triplet, which may be the descriptor's last.
+unfoldable pub addGroups : Kind → (last : Bool) → (p : ℕ) → List (ℕ × Entry) → (n : ℕ) → List Group → Result ℕ
+addGroups kind last p es n [] = ok n
+addGroups kind last p es n (g ∷ gs) =
+    addGroup kind (last && isEmpty gs) p n g (lookup (g .ref) es) >>= (λ m. addGroups kind last p es m gs)
 
 -- A mode or a bias indicator of 0 or 1 where the type has one, and zero elsewhere.
 abbrev pub most : Bool → ℕ
@@ -125,21 +129,21 @@ abbrev pub goodLengthRow : List ℕ → Bool
 goodLengthRow t = leb 6 (length t) && eqb (length t % 3) 0
 
 -- LENGTH, names and count of a GDA are judged as for an RLO (Q-4).
-unfoldable pub checkRow : Kind → List (ℕ × Entry) → (p : ℕ) → List ℕ → Result State
-checkRow kind es p t = do
+unfoldable pub checkRow : Kind → (last : Bool) → List (ℕ × Entry) → (p : ℕ) → List ℕ → Result State
+checkRow kind last es p t = do
   reject (not (goodLengthRow t)) 5 p
   reject (eqb (idOf t) 0) 6 p
   reject (isDescribed (idOf t) es) 7 p
-  n ← addGroups kind p es 0 (groupsOf t)
+  n ← addGroups kind last p es 0 (groupsOf t)
   ok (record { described = es; current = some (idOf t, n, kind) })
 
 -- A CPT continues the RLO or GDA right before it; its byte 2 is reserved.
-unfoldable pub checkCPT : State → (p : ℕ) → List ℕ → Result State
-checkCPT st p t = do
+unfoldable pub checkCPT : (last : Bool) → State → (p : ℕ) → List ℕ → Result State
+checkCPT last st p t = do
   r ← the (st .current) 4 p
   reject (not (goodLengthRow t)) 5 p
   reject (not (eqb (idOf t) 0)) 6 p
-  n ← addGroups (r .2) p (st .described) (r .1) (groupsOf t)
+  n ← addGroups (r .2) last p (st .described) (r .1) (groupsOf t)
   ok (record { described = st .described; current = some (r .0, n, r .2) })
 
 -- An ISD is the first triplet.
@@ -156,21 +160,21 @@ checkISD st p t = do
   reject (not (goodISD t)) 6 p
   ok st
 
-unfoldable pub checkConstruct : Option Construct → State → (p : ℕ) → List ℕ → Result State
-checkConstruct none st p t = refuse 3 p
-checkConstruct (some SDA) st p t = checkSDA (closed st) p t
-checkConstruct (some (grouped kind)) st p t = checkRow kind (closed st) p t
-checkConstruct (some ISD) st p t = checkISD st p t
-checkConstruct (some CPT) st p t = checkCPT st p t
+unfoldable pub checkConstruct : Option Construct → (last : Bool) → State → (p : ℕ) → List ℕ → Result State
+checkConstruct none last st p t = refuse 3 p
+checkConstruct (some SDA) last st p t = checkSDA (closed st) p t
+checkConstruct (some (grouped kind)) last st p t = checkRow kind last (closed st) p t
+checkConstruct (some ISD) last st p t = checkISD st p t
+checkConstruct (some CPT) last st p t = checkCPT last st p t
 
-unfoldable pub checkTriplet : State → Triplet → Result State
-checkTriplet st (torn p) = refuse 2 p
-checkTriplet st (triplet p t) = checkConstruct (constructOf t) st p t
+unfoldable pub checkTriplet : (last : Bool) → State → Triplet → Result State
+checkTriplet last st (torn p) = refuse 2 p
+checkTriplet last st (triplet p t) = checkConstruct (constructOf t) last st p t
 
 -- Triplets left to right: the first refusal stands.
 unfoldable pub checkTriplets : State → List Triplet → Result State
 checkTriplets st [] = ok st
-checkTriplets st (t ∷ ts) = checkTriplet st t >>= (λ u. checkTriplets u ts)
+checkTriplets st (t ∷ ts) = checkTriplet (isEmpty ts) st t >>= (λ u. checkTriplets u ts)
 
 abbrev pub begin : State
 begin = record { described = []; current = none }
@@ -180,9 +184,17 @@ abbrev pub lastCount : (size : ℕ) → List (ℕ × Entry) → Result ℕ
 lastCount size [] = refuse 11 size
 lastCount size (e ∷ es) = ok (countOf (e .1))
 
--- The check's result: a refusal's number and place, or the item count.
+-- 22, Endless (Q-5): every item of the repeated layout is an X'01' that is not nullable and has F 0.
+abbrev pub isEndless : Option (List Field) → Bool
+isEndless none = false
+isEndless (some rows) = endless rows
+
+-- The check's result: a refusal's number and place, or the item count, with rows to the end the count before them. Their group is the descriptor's last,
+-- so that its 22, at its triplet, comes behind all else.
 unfoldable pub check : List ℕ → Result ℕ
 check d = do
   reject (ltb maxDescriptor (length d)) 1 0
   st ← checkTriplets begin (triplets d)
-  lastCount (length d) (closed st)
+  n ← lastCount (length d) (closed st)
+  reject (isEndless (repeated d)) 22 (lastPlace (triplets d))
+  ok n

@@ -7,9 +7,9 @@ use mathlib.Core.List.{List, [], _∷_, _++_}
 use lib.Dec.{ltb, eqb}
 use lib.ListN.{length, take, drop}
 use Rattle.fdoca.specs.Basics.{if_then_else_, big, Result, refuse, ok, _>>=_, _>>_, reject}
-use Rattle.fdoca.specs.Walk.{Note, walk}
+use Rattle.fdoca.specs.Walk.{Note, walkBy}
 use Rattle.fdoca.specs.Check.{check, maxDescriptor}
-use Rattle.fdoca.specs.Unfolding.{unfolded}
+use Rattle.fdoca.specs.Unfolding.{unfolded, repeated}
 use Rattle.fdoca.specs.Calls.{oversize, maxData}
 
 -- A number in decimal: its last digit stands behind the number of tens. The fuel is above the number.
@@ -62,7 +62,7 @@ unfoldable pub blockNotes : List ℕ → List ℕ → Result (List Note)
 blockNotes d s = do
   reject (oversize d s) 1 0
   n ← check d
-  walk (unfolded d) s
+  walkBy (unfolded d) (repeated d) s
 
 -- A file: descriptor size, data size (four bytes each, most significant first), descriptor, data.
 abbrev pub firstSize : List ℕ → ℕ

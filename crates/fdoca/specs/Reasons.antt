@@ -1,5 +1,6 @@
--- Document 01's table "Numbers a caller can meet", with 6 as Q-2 leaves it, 20 by Q-1, and group triplets and 21 by Q-4, row by row: for each number
--- its column "When", said of a triplet, a group, an item or a call by itself, with its place and without regard to the other rows; then 01's order.
+-- Document 01's table "Numbers a caller can meet", with 6 as Q-2 leaves it, 20 by Q-1, group triplets and 21 by Q-4, and rows to the end and 22 by Q-5,
+-- row by row: for each number its column "When", said of a triplet, a group, an item or a call by itself, with its place and without regard to the other
+-- rows; then 01's order.
 -- Bytes are read at their places. The unfolding, a field's length in bytes, the split of bytes into halves and the standard's account of an item are
 -- taken from their own files; nothing is taken from the check, from measuring, or from the calls.
 use mathlib.Core.Path.{_≡_}
@@ -7,11 +8,13 @@ use mathlib.Core.Logic.{_≢_, _⊎_}
 use Prim.Native.Nat.{ℕ, zero, suc, _+_, _*_, _≤_, _<_}
 use mathlib.Core.Bool.{false}
 use mathlib.Core.List.{List, [], _∷_, _++_}
+use mathlib.Core.Option.{none, some}
 use lib.ListN.{length, take, drop, getD}
+use Rattle.fdoca.specs.Basics.{repeat}
 use Rattle.fdoca.specs.FieldType.{digits}
 use Rattle.fdoca.specs.Item.{Field, fieldLength}
 use Rattle.fdoca.specs.Account.{Parts, Begins, Block, Unused}
-use Rattle.fdoca.specs.Unfolding.{unfolded}
+use Rattle.fdoca.specs.Unfolding.{unfolded, repeated}
 use Rattle.fdoca.specs.Packed.{halfBytes}
 
 abbrev pub byte : List ℕ → (place : ℕ) → ℕ
@@ -102,6 +105,10 @@ taken d j k = byte1 d j k
 
 abbrev pub factor : List ℕ → (j k : ℕ) → ℕ
 factor d j k = byte2 d j k
+
+-- The bytes of group k of triplet j end the descriptor (Q-5).
+abbrev pub EndsDescriptor : List ℕ → (j k : ℕ) → Type 0
+EndsDescriptor d j k = place d j + (6 + 3 * k) ≡ length d
 
 -- The row of r refers to triplet q by an id. An RLO or GDA counts as described after its last CPT, so q stands before it.
 pub record Refers (d : List ℕ) (r id q : ℕ) : Type 0 where
@@ -224,9 +231,10 @@ pub data NameTaken (d : List ℕ) (j : ℕ) : Type 0 where
 pub data MissingReference (d : List ℕ) (j k : ℕ) : Type 0 where
   missing : {r : ℕ} → InRow d r j → HasGroup d j k → ((q : ℕ) → Refers d r (reference d j k) q → ⊥) → MissingReference d j k
 
--- 9, Not carried: in an RLO repetition 0; elements taken above 0 over an RLO, a GDA or an SDA without extents.
+-- 9, Not carried: in an RLO repetition 0, but where the group's bytes end the descriptor; elements taken above 0 over an RLO, a GDA or an SDA without
+-- extents.
 pub data NotCarried (d : List ℕ) (j k : ℕ) : Type 0 where
-  repetition-0 : {r : ℕ} → InRow d r j → Is d rlo r → HasGroup d j k → factor d j k ≡ 0 → NotCarried d j k
+  repetition-0 : {r : ℕ} → InRow d r j → Is d rlo r → HasGroup d j k → factor d j k ≡ 0 → (EndsDescriptor d j k → ⊥) → NotCarried d j k
   over-row : {r q : ℕ} → InRow d r j → Is d rlo r → HasGroup d j k → 0 < taken d j k → Refers d r (reference d j k) q → HasGroups d q
       → NotCarried d j k
   over-single : {r q : ℕ} → InRow d r j → Is d rlo r → HasGroup d j k → 0 < taken d j k → Refers d r (reference d j k) q → Is d sda q
@@ -241,6 +249,15 @@ pub data ColumnMisfit (d : List ℕ) (j k : ℕ) : Type 0 where
   bad-length : {r q : ℕ} → InRow d r j → Is d gda r → HasGroup d j k → Refers d r (reference d j k) q → Is d sda q → 0 < F (byte1 d j k) (byte2 d j k)
       → (Suits (byteOf d q 3) (byte1 d j k) (byte2 d j k) → ⊥) → ColumnMisfit d j k
 
+-- 22, Endless (Q-5): every item of the repeated layout is an X'01' that isn't nullable and has F 0.
+pub data NoData : List Field → Type 0 where
+  none-left : NoData []
+  one-more : {f : Field} {fs : List Field} → f .code ≡ 0x01 → fieldLength f ≡ 0 → NoData fs → NoData (f ∷ fs)
+
+pub data Endless (d : List ℕ) (j k : ℕ) : Type 0 where
+  no-data : {r : ℕ} {rows : List Field} → InRow d r j → Is d rlo r → HasGroup d j k → EndsDescriptor d j k → factor d j k ≡ 0 → repeated d ≡ some rows
+      → NoData rows → Endless d j k
+
 -- 10, Too many items: the SDA's count, or the RLO's or GDA's count up to this group, over 4,096.
 pub data TooManyItems (d : List ℕ) (j : ℕ) : Type 0 where
   of-SDA : {n : ℕ} → Is d sda j → Counts d j n → 4096 < n → TooManyItems d j
@@ -248,8 +265,8 @@ pub data TooManyItems (d : List ℕ) (j : ℕ) : Type 0 where
 pub data TooManyUpTo (d : List ℕ) (j k : ℕ) : Type 0 where
   of-row : {r n : ℕ} → UpTo d r j (suc k) n → 4096 < n → TooManyUpTo d j k
 
--- The reasons of triplet j: 8, 9, 21 and 10 belong to its group k, counted from 1, the others to the triplet itself, counted 0. Steps are in the order of
--- the numbers, but that 21 has the step of 9: a group's turn has 8, then 9 in an RLO or 21 in a GDA, then 10.
+-- The reasons of triplet j: 8, 9, 21, 22 and 10 belong to its group k, counted from 1, the others to the triplet itself, counted 0. A group's turn has 8,
+-- then 9 in an RLO or 21 in a GDA, then 22, then 10.
 pub data OfTriplet (d : List ℕ) (j : ℕ) : (group step number : ℕ) → Type 0 where
   torn : Torn d j → OfTriplet d j 0 2 2
   unknown-construct : UnknownConstruct d j → OfTriplet d j 0 3 3
@@ -261,7 +278,7 @@ pub data OfTriplet (d : List ℕ) (j : ℕ) : (group step number : ℕ) → Type
   missing-reference : {k : ℕ} → MissingReference d j k → OfTriplet d j (suc k) 8 8
   not-carried : {k : ℕ} → NotCarried d j k → OfTriplet d j (suc k) 9 9
   column-misfit : {k : ℕ} → ColumnMisfit d j k → OfTriplet d j (suc k) 9 21
-  too-many-up-to : {k : ℕ} → TooManyUpTo d j k → OfTriplet d j (suc k) 10 10
+  too-many-up-to : {k : ℕ} → TooManyUpTo d j k → OfTriplet d j (suc k) 11 10
 
 -- THE ROWS that speak of an item of the field f, whose bytes and all behind them are s. Each belongs to a step of measuring: 0 null indicator, 1 L
 -- bytes, 2 L's range, 3 body.
@@ -330,46 +347,79 @@ pub record StartsAt (fs : List Field) (s : List ℕ) (k : ℕ) (f : Field) (q : 
   pub split : s ≡ bytes ++ rest
   pub place-is : length bytes ≡ q
 
--- The reasons of a block's fields and data. 16, Surplus: bytes after the last item.
+-- The reasons of the fields and the data of a block without rows to the end. 16, Surplus: bytes after the last item.
 pub data OfItems (fs : List Field) (s : List ℕ) : (turn : List ℕ) → (number place : ℕ) → Type 0 where
   item : {k step m q : ℕ} {f : Field} {rest : List ℕ} → StartsAt fs s k f q rest → OfItem f rest step m → OfItems fs s (5 ∷ k ∷ step ∷ []) m q
   surplus : {xs : List Parts} {bytes : List ℕ} (rest : List ℕ) → Block fs xs bytes → s ≡ bytes ++ rest → 0 < length rest
       → OfItems fs s (6 ∷ []) 16 (length bytes)
 
+-- With rows to the end (Q-5): the fields before them and those of j passes over the repeated layout.
+abbrev pub withPasses : (before rows : List Field) → (j : ℕ) → List Field
+withPasses before rows j = before ++ repeat j rows
+
+-- The walk comes to item k: no number of whole passes, of k items or fewer, uses up the data.
+abbrev pub ComesTo : (before rows : List Field) → List ℕ → (k : ℕ) → Type 0
+ComesTo before rows s k = (j : ℕ) (xs : List Parts) → Block (withPasses before rows j) xs s → k < length (withPasses before rows j)
+
+-- 10, Too many items: the 4,097th, before it is measured. There is no 16.
+pub data OfRows (before rows : List Field) (s : List ℕ) : (turn : List ℕ) → (number place : ℕ) → Type 0 where
+  item : {k step m q : ℕ} {f : Field} {rest : List ℕ} (j : ℕ) → StartsAt (withPasses before rows j) s k f q rest → ComesTo before rows s k → k < 4096
+      → OfItem f rest step m → OfRows before rows s (5 ∷ k ∷ step ∷ []) m q
+  too-many : {q : ℕ} {f : Field} {rest : List ℕ} (j : ℕ) → StartsAt (withPasses before rows j) s 4096 f q rest → ComesTo before rows s 4096
+      → OfRows before rows s (5 ∷ 4096 ∷ 0 ∷ []) 10 q
+
+-- Some number of passes is the whole of the data: so many items.
+pub data Uses (before rows : List Field) (s : List ℕ) : (n : ℕ) → Type 0 where
+  whole-passes : {xs : List Parts} (j : ℕ) → Block (withPasses before rows j) xs s → Uses before rows s (length (withPasses before rows j))
+
+-- The unfolding of a descriptor: with rows to the end, with some number of passes.
+pub data Unfolds (d : List ℕ) : List Field → Type 0 where
+  as-it-is : repeated d ≡ none → Unfolds d (unfolded d)
+  and-passes : {rows : List Field} (j : ℕ) → repeated d ≡ some rows → Unfolds d (withPasses (unfolded d) rows j)
+
 -- THE CALLS: each reason with its turn in 01's order, its number and its place. The order is 1; triplets left to right, each by rising number, with 8, 9 or
--- 21, 10 taken group by group; 11; 12 (list call only); then items in order, each by its steps; 16; 17; 18; 20.
+-- 21, 22, 10 taken group by group; 11; 12 (list call only); then items in order, each by its steps; 16; with rows to the end 12 here; 17; 18; 20.
 pub data OfDescriptor (d : List ℕ) : (turn : List ℕ) → (number place : ℕ) → Type 0 where
   -- 1, Oversize: the descriptor over its limit
   oversize : 4096 < length d → OfDescriptor d (1 ∷ []) 1 0
-  -- 2 to 10 and 21, at the triplet
+  -- 2 to 10, 21 and 22, at the triplet
   triplet : {j g step m : ℕ} → There d j → OfTriplet d j g step m → OfDescriptor d (2 ∷ j ∷ g ∷ step ∷ []) m (place d j)
+  endless : {j k : ℕ} → There d j → Endless d j k → OfDescriptor d (2 ∷ j ∷ suc k ∷ 10 ∷ []) 22 (place d j)
   -- 11, Nothing described: no SDA, RLO or GDA
   nothing-described : ((id j : ℕ) → Describes d id j → ⊥) → OfDescriptor d (3 ∷ []) 11 (length d)
 
--- A descriptor with data: the fields are those of its unfolding.
+-- The reasons of a descriptor's data: of the items of its unfolding, or with rows to the end of these too.
+pub data OfData (d s : List ℕ) : (turn : List ℕ) → (number place : ℕ) → Type 0 where
+  items : {t : List ℕ} {m p : ℕ} → repeated d ≡ none → OfItems (unfolded d) s t m p → OfData d s t m p
+  rows : {t : List ℕ} {m p : ℕ} {layout : List Field} → repeated d ≡ some layout → OfRows (unfolded d) layout s t m p → OfData d s t m p
+
+-- A descriptor with data.
 pub data OfBlock (d s : List ℕ) : (turn : List ℕ) → (number place : ℕ) → Type 0 where
   descriptor : {t : List ℕ} {m p : ℕ} → OfDescriptor d t m p → OfBlock d s t m p
   -- 1, Oversize: the data over its limit
   oversize : 32768 < length s → OfBlock d s (1 ∷ []) 1 0
-  items : {t : List ℕ} {m p : ℕ} → OfItems (unfolded d) s t m p → OfBlock d s t m p
+  data-of : {t : List ℕ} {m p : ℕ} → OfData d s t m p → OfBlock d s t m p
 
 -- The list call, with a list of so many entries.
 pub data OfList (d s : List ℕ) (entries : ℕ) : (turn : List ℕ) → (number place : ℕ) → Type 0 where
   block : {t : List ℕ} {m p : ℕ} → OfBlock d s t m p → OfList d s entries t m p
   -- 12, Small list: under 2 + 2n entries for n items
-  small-list : entries < 2 + 2 * length (unfolded d) → OfList d s entries (4 ∷ []) 12 0
+  small-list : repeated d ≡ none → entries < 2 + 2 * length (unfolded d) → OfList d s entries (4 ∷ []) 12 0
+  small-for-rows : {rows : List Field} {n : ℕ} → repeated d ≡ some rows → Uses (unfolded d) rows s n → entries < 2 + 2 * n
+      → OfList d s entries (7 ∷ []) 12 0
 
 -- The state call, and lending, for item k.
 pub data OfState (d s : List ℕ) (k : ℕ) : (turn : List ℕ) → (number place : ℕ) → Type 0 where
   block : {t : List ℕ} {m p : ℕ} → OfBlock d s t m p → OfState d s k t m p
   -- 17, No such item: item number n or more
-  no-such-item : length (unfolded d) ≤ k → OfState d s k (7 ∷ []) 17 0
+  no-such-item : repeated d ≡ none → length (unfolded d) ≤ k → OfState d s k (7 ∷ []) 17 0
+  not-in-rows : {rows : List Field} {n : ℕ} → repeated d ≡ some rows → Uses (unfolded d) rows s n → n ≤ k → OfState d s k (7 ∷ []) 17 0
 
 -- The whole-number read of item k. 18, Wrong kind: of another type, null or not.
 pub data OfWholeNumber (d s : List ℕ) (k : ℕ) : (turn : List ℕ) → (number place : ℕ) → Type 0 where
   state : {t : List ℕ} {m p : ℕ} → OfState d s k t m p → OfWholeNumber d s k t m p
-  wrong-kind : {q : ℕ} {f : Field} {rest : List ℕ} → StartsAt (unfolded d) s k f q rest → (HasType f 0x23 → ⊥) → (HasType f 0x24 → ⊥)
-      → OfWholeNumber d s k (8 ∷ []) 18 q
+  wrong-kind : {fs : List Field} {q : ℕ} {f : Field} {rest : List ℕ} → Unfolds d fs → StartsAt fs s k f q rest → (HasType f 0x23 → ⊥)
+      → (HasType f 0x24 → ⊥) → OfWholeNumber d s k (8 ∷ []) 18 q
 
 -- 20, Bad digit (Q-1): in the half-bytes of a value of p digits, two to a byte, an unused one that is not zero, a digit above 9, or a sign below A.
 abbrev pub half : List ℕ → (i : ℕ) → ℕ
@@ -383,8 +433,9 @@ pub data BadDigit (p : ℕ) (v : List ℕ) : Type 0 where
 -- The read of a packed item k. 18, Wrong kind: of another type, null or not. Then 20, of a value alone.
 pub data OfPacked (d s : List ℕ) (k : ℕ) : (turn : List ℕ) → (number place : ℕ) → Type 0 where
   state : {t : List ℕ} {m p : ℕ} → OfState d s k t m p → OfPacked d s k t m p
-  wrong-kind : {q : ℕ} {f : Field} {rest : List ℕ} → StartsAt (unfolded d) s k f q rest → (HasType f 0x30 → ⊥) → OfPacked d s k (8 ∷ []) 18 q
-  bad-digit : {q p fraction : ℕ} {f : Field} {rest : List ℕ} {x : Parts} → StartsAt (unfolded d) s k f q rest → f .size ≡ digits p fraction → Begins f rest x
+  wrong-kind : {fs : List Field} {q : ℕ} {f : Field} {rest : List ℕ} → Unfolds d fs → StartsAt fs s k f q rest → (HasType f 0x30 → ⊥)
+      → OfPacked d s k (8 ∷ []) 18 q
+  bad-digit : {fs : List Field} {q p fraction : ℕ} {f : Field} {rest : List ℕ} {x : Parts} → Unfolds d fs → StartsAt fs s k f q rest → f .size ≡ digits p fraction → Begins f rest x
       → x .isNull ≡ false → BadDigit p (x .value) → OfPacked d s k (9 ∷ []) 20 q
 
 -- The dump program's file: descriptor size and data size, four bytes each, most significant first, descriptor, data. 19, Bad file: it doesn't fit its

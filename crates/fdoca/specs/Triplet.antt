@@ -24,6 +24,16 @@ tripletsFrom (suc fuel) p (n ∷ s) =
 abbrev pub triplets : List ℕ → List Triplet
 triplets d = tripletsFrom (length d) 0 d
 
+-- The place of the last triplet; where there is none, it is not asked for.
+abbrev pub placeOf : Triplet → ℕ
+placeOf (torn p) = p
+placeOf (triplet p t) = p
+
+abbrev pub lastPlace : List Triplet → ℕ
+lastPlace [] = 0
+lastPlace (t ∷ []) = placeOf t
+lastPlace (t ∷ u ∷ ts) = lastPlace (u ∷ ts)
+
 -- The kinds of triplets with groups, which a CPT may continue: RLO, and GDA, the Group Data Array, which is Q-4's group triplet.
 pub data Kind : Type 0 where
   RLO GDA : Kind

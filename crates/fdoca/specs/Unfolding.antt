@@ -1,13 +1,16 @@
--- The unfolding of an accepted descriptor (document 01, "Unfolding and walk"; document 02, Q-4): the list of its fields, made from its bytes.
+-- The unfolding of an accepted descriptor (document 01, "Unfolding and walk"; document 02, Q-4 and Q-5): the list of its fields, made from its bytes,
+-- and the repeated layout of rows to the end.
 -- The cases marked * occur in no accepted descriptor: theorem `no-star` of proofs/Stars.
-use Prim.Native.Nat.{ℕ, zero, suc, _*_}
+use Prim.Native.Nat.{ℕ, zero, suc, _-_, _*_}
+use mathlib.Core.Bool.{Bool, true, _&&_}
 use mathlib.Core.List.{List, [], _∷_, _++_}
 use mathlib.Core.Option.{Option, none, some}
-use lib.ListN.{replicate}
-use Rattle.fdoca.specs.Basics.{lookup, product, repeat}
+use lib.Dec.{eqb}
+use lib.ListN.{length, replicate, getD}
+use Rattle.fdoca.specs.Basics.{if_then_else_, lookup, product, repeat}
 use Rattle.fdoca.specs.FieldType.{FieldType, typeOf, ruleOf, sizeReplaced}
 use Rattle.fdoca.specs.Triplet.{Triplet, torn, triplet, triplets, Kind, RLO, GDA, Construct, SDA, ISD, CPT, grouped, constructOf, idOf, codeOf, parametersOf, modeOf, sizeIn, extentsOf, Group, taken, factor, groupsOf}
-use Rattle.fdoca.specs.Item.{Field, withSize}
+use Rattle.fdoca.specs.Item.{Field, withSize, fieldLength}
 
 -- What an id describes: an SDA's field and its extents, or the list of an RLO or a GDA.
 pub data Described : Type 0 where
@@ -109,3 +112,27 @@ lastFields (d ∷ ds) = fieldsOf (d .1)
 
 unfoldable pub unfolded : List ℕ → List Field
 unfolded d = lastFields (closed (unfoldTriplets start (triplets d)))
+
+-- Rows to the end (Q-5): the last group of an RLO, whose bytes end the descriptor, has repetition 0. It adds no field to the unfolding; the list of the
+-- triplet that it refers to is the repeated layout.
+abbrev pub lastGroup : List ℕ → Group
+lastGroup d = record { ref = getD d (length d - 3) 0; byte1 = getD d (length d - 2) 0; byte2 = getD d (length d - 1) 0 }
+
+abbrev pub rowsOf : Kind → List (ℕ × Described) → Group → Option (List Field)
+rowsOf RLO ds g = if eqb (factor g) 0 then some (fieldsReferred (taken g) (lookup (g .ref) ds)) else none
+rowsOf GDA ds g = none
+
+abbrev pub rowsAtEnd : Option (ℕ × List Field × Kind) → List (ℕ × Described) → Group → Option (List Field)
+rowsAtEnd none ds g = none
+rowsAtEnd (some r) ds g = rowsOf (r .2) ds g
+
+-- The repeated layout, where there are rows to the end.
+unfoldable pub repeated : List ℕ → Option (List Field)
+repeated d =
+    let st = unfoldTriplets start (triplets d) in
+    rowsAtEnd (st .current) (st .described) (lastGroup d)
+
+-- Every item of a layout is an X'01' that is not nullable and has F 0.
+abbrev pub endless : List Field → Bool
+endless [] = true
+endless (f ∷ fs) = eqb (f .code) 0x01 && eqb (fieldLength f) 0 && endless fs
