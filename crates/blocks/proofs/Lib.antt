@@ -1,5 +1,4 @@
 pub mod Plans
-pub mod Parts
 pub mod Calling
 pub mod Items
 pub mod Wholes

@@ -1,12 +1,13 @@
 // The calls on a descriptor and its data: list the items, tell an item's state, lend its value, read a whole number or a packed decimal.
 ghost use mathlib.Core.Path.{_≡_};
-ghost use Prim.Native.Nat.{_+_, _*_, _≤_};
+ghost use Prim.Native.Nat.{_+_, _≤_};
+ghost use mathlib.Core.Bool.{not, _&&_};
 ghost use lib.ListN.{length};
 ghost use Rattle.fdoca.specs.Basics.{refuse, ok};
-ghost use Rattle.fdoca.specs.Unfolding.{unfolded};
 ghost use Rattle.fdoca.specs.Calls as calls;
 ghost use Rattle.fdoca.specs.Calls.{itemAt, stateOf, wholeNumber, wholeAnswer, decimalAnswer};
 ghost use Rattle.descriptors.specs.Holds.{Ready};
+ghost use Rattle.cuts.specs.Cut.{Fitting};
 ghost use Rattle.blocks.specs.Answers.{itemsInto, ListedAs};
 ghost use Rattle.blocks.specs.Lending.{lentAt, LentPart};
 ghost use Rattle.blocks.specs.Packing.{Packing, readAt};
@@ -34,31 +35,39 @@ pub struct Lent {
     pub length: u32,
 }
 
-// The list call on an accepted descriptor, with a plan of as many entries as there are items. The list is written only after the whole block
-// is known to be good.
+fn listed(number: u32, place: u32) -> Listed
+    ensures { λ r. ⌜ r ≡ record { number = number; place = place } ⌝ }
+{
+    Listed {
+        number: number,
+        place: place,
+    }
+}
+
+// The list call on an accepted descriptor, where 12 has not come before the items. The list is written only after the whole block is known to be
+// good, and to have room in it.
 fn list_by(
     desc: &[u8],
     starts: &[u16; 256],
     sizes: &[u32; 256],
     entries: &[u64; 256],
-    id: u8,
+    x: Examined,
     plan: &mut [u64],
     data: &[u8],
     list: &mut [u32],
 ) -> Listed
-    requires { ⌜ Ready (now desc) (now starts) (now sizes) (now entries) id (length (now plan)) × (length (now «data») ≤ 32768)
-        × (2 + 2 * length (now plan) ≤ length (now list)) ⌝ }
-    ensures { λ r. ⌜ ListedAs (itemsInto (length (now (plan .entry))) (unfolded (now (desc .entry))) (now («data» .entry)) (now (list .entry))) (now (list .entry)) r (now (list .exit)) ⌝ }
+    requires { ⌜ Ready (now desc) (now starts) (now sizes) (now entries) (x .id) (x .items) (x .rows) × Fitting x (now plan) × (length (now «data») ≤ 32768) ⌝ }
+    ensures { λ r. ⌜ ListedAs (itemsInto (now (desc .entry)) (now («data» .entry)) (now (list .entry))) (now (list .entry)) r (now (list .exit)) ⌝ }
 {
-    plans::write(desc, starts, sizes, entries, plan, id);
-    let stop = walks::mark(plan, data);
-    if stop.number == 0 {
-        walks::write_list(plan, data.len(), list);
+    let c = cuts::cut(desc, starts, sizes, entries, x, plan, data);
+    if c.number != 0 {
+        return listed(c.number, c.place);
     }
-    Listed {
-        number: stop.number,
-        place: stop.place,
+    if list.len() < 2 + 2 * c.count {
+        return listed(12, 0);
     }
+    walks::write_list(&plan[..c.count], data.len(), list);
+    listed(0, 0)
 }
 
 // The list call on an accepted descriptor, with a plan in the smaller buffer that holds it.
@@ -71,18 +80,28 @@ fn list_planned(
     data: &[u8],
     list: &mut [u32],
 ) -> Listed
-    requires { ⌜ Ready (now desc) (now starts) (now sizes) (now entries) (x .id) (x .items) × (length (now «data») ≤ 32768)
-        × (2 + 2 * x .items ≤ length (now list)) ⌝ }
-    ensures { λ r. ⌜ ListedAs (itemsInto (x .items) (unfolded (now (desc .entry))) (now («data» .entry)) (now (list .entry))) (now (list .entry)) r (now (list .exit)) ⌝ }
+    requires { ⌜ Ready (now desc) (now starts) (now sizes) (now entries) (x .id) (x .items) (x .rows) × (length (now «data») ≤ 32768) ⌝ }
+    ensures { λ r. ⌜ ListedAs (itemsInto (now (desc .entry)) (now («data» .entry)) (now (list .entry))) (now (list .entry)) r (now (list .exit)) ⌝ }
 {
-    let n = x.items as usize;
-    let id = x.id;
+    let n = cuts::entries(x);
     if n <= lookups::FEW {
         let mut few = [0u64; lookups::FEW];
-        return list_by(desc, starts, sizes, entries, id, &mut few[..n], data, list);
+        return list_by(desc, starts, sizes, entries, x, &mut few[..n], data, list);
     }
     let mut many = [0u64; lookups::MANY];
-    list_by(desc, starts, sizes, entries, id, &mut many[..n], data, list)
+    list_by(desc, starts, sizes, entries, x, &mut many[..n], data, list)
+}
+
+// Whether a list of so many entries is too small, as far as the descriptor alone tells: with rows to the end it does not.
+fn too_small(x: Examined, size: usize) -> bool
+    requires { ⌜ x .items ≤ 4096 ⌝ }
+    ensures { λ r. ⌜ r ≡ (not (x .rows) && calls.small size (x .items)) ⌝ }
+{
+    if x.rows {
+        return false;
+    }
+    let n = x.items as usize;
+    size < 2 + 2 * n
 }
 
 // Lists a block's items: number and place, and in the caller's list the count, the block's length, each item's start and each item's id. On a
@@ -91,27 +110,17 @@ pub fn list(descriptor: &[u8], data: &[u8], list: &mut [u32]) -> Listed
     ensures { λ r. ⌜ ListedAs (calls.list (now (descriptor .entry)) (now («data» .entry)) (now (list .entry))) (now (list .entry)) r (now (list .exit)) ⌝ }
 {
     if lookups::MOST_DATA < data.len() {
-        return Listed {
-            number: 1,
-            place: 0,
-        };
+        return listed(1, 0);
     }
     let mut starts = [sdas::NOWHERE; 256];
     let mut sizes = [0u32; 256];
     let mut entries = [0u64; 256];
     let x = descriptors::examine(descriptor, &mut starts, &mut sizes, &mut entries);
     if x.number != 0 {
-        return Listed {
-            number: x.number,
-            place: x.place,
-        };
+        return listed(x.number, x.place);
     }
-    let n = x.items as usize;
-    if list.len() < 2 + 2 * n {
-        return Listed {
-            number: 12,
-            place: 0,
-        };
+    if too_small(x, list.len()) {
+        return listed(12, 0);
     }
     list_planned(descriptor, &starts, &sizes, &entries, x, data, list)
 }

@@ -47,7 +47,7 @@ module _ (d s z e : List ℕ) (p n k : ℕ) (x : Step) (held : Held d s z e p x)
   ends : k ≢ 0x7F → EndsAt d p
   ends h = no-CPT (λ q. h (ek ∙ ap (λ t. getD t 1 0) same ∙ getD-take n (drop p d) 1 0 (omega arith) ∙ getD-drop p d 1 0 ∙ q))
 
-  pub over-cpt : (r : Step) → k ≡ 0x7F → SteppedCPT (take (p + n - p) (drop p d)) s z e x r → Advanced d s z e p r
+  pub over-cpt : (r : Step) → k ≡ 0x7F → SteppedCPT (eqb (p + n) (length d)) (take (p + n - p) (drop p d)) s z e x r → Advanced d s z e p r
   over-cpt r q st = cpt-moved d s z e p n x r (held .0) (held .1) there en least whole (kind 0x7F q) (rw same at st)
 
   module _ (s′ z′ e′ : List ℕ) (cl : ClosedRow d s z e s′ z′ e′ p x) (nc : k ≡ 0x7F → ⊥) where
@@ -61,7 +61,7 @@ module _ (d s z e : List ℕ) (p n k : ℕ) (x : Step) (held : Held d s z e p x)
     over-sda r s″ z″ e″ small q st =
         sda-moved d s z e s′ z′ e′ p n x r (held .0) (held .1) there en least whole small s″ z″ e″ tables (kind 0x70 q) (rw same at st)
 
-    pub over-row : (r : Step) (b : Bool) → b ≡ withGroups k → b ≡ true → SteppedRow (take (p + n - p) (drop p d)) p s′ z′ e′ r → Advanced d s′ z′ e′ p r
+    pub over-row : (r : Step) (b : Bool) → b ≡ withGroups k → b ≡ true → SteppedRow (eqb (p + n) (length d)) (take (p + n - p) (drop p d)) p s′ z′ e′ r → Advanced d s′ z′ e′ p r
     over-row r b eb h st =
         row-moved d s z e s′ z′ e′ p n x r (held .0) (held .1) there en least whole tables (of-kind (grouped k (sym eb ∙ h))) (rw same at st)
       where

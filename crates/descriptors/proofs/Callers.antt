@@ -3,12 +3,13 @@
 use mathlib.Core.Path.{_≡_, sym, ap, _∙_}
 use Prim.Native.Nat.{ℕ, _≤_}
 use native.Mathlib.Omega.{arith}
+use mathlib.Core.Bool.{Bool}
 use mathlib.Core.List.{List, map}
 use lib.ListN.{length}
 use lib.Seq.{sets, length-sets, take-all}
 use Rattle.fdoca.specs.Basics.{Result, refuse, ok}
 use Rattle.fdoca.specs.Check.{check}
-use Rattle.fdoca.specs.Unfolding.{unfolded}
+use Rattle.fdoca.specs.Unfolding.{unfolded, repeated}
 use Rattle.fdoca.specs.Calls.{checked}
 use Rattle.fields.specs.Plan.{entryOf, Planned}
 use Rattle.plans.specs.Tied.{describedBy, listOf}
@@ -19,7 +20,7 @@ use Rattle.descriptors.specs.Holds.{Ready, examined, Examination}
 pub refused-by : (d s z e : List ℕ) (x : Examined) → Examination d s z e x → (x .number ≡ 0 → ⊥) → check d ≡ refuse (x .number) (x .place)
 refused-by d s z e x w h = go (check d) (w .result)
   where
-    go : (c : Result ℕ) → x ≡ examined c (describedBy d) → c ≡ refuse (x .number) (x .place)
+    go : (c : Result ℕ) → x ≡ examined c (describedBy d) (repeated d) → c ≡ refuse (x .number) (x .place)
     go (refuse n p) q = rw q
     go (ok n) q = absurd (h (rw q))
 
@@ -27,11 +28,11 @@ refused-by d s z e x w h = go (check d) (w .result)
 pub as-checked : (d s z e : List ℕ) (x : Examined) → Examination d s z e x → record { number = x .number; place = x .place; items = x .items } ≡ checked (check d)
 as-checked d s z e x w = go (check d) (w .result)
   where
-    go : (c : Result ℕ) → x ≡ examined c (describedBy d) → record { number = x .number; place = x .place; items = x .items } ≡ checked c
+    go : (c : Result ℕ) → x ≡ examined c (describedBy d) (repeated d) → record { number = x .number; place = x .place; items = x .items } ≡ checked c
     go (refuse n p) q = rw q
     go (ok n) q = rw q
 
-module _ (d s z e plan : List ℕ) (id : ℕ) (rd : Ready d s z e id (length plan)) where
+module _ (d s z e plan : List ℕ) (id : ℕ) (rows : Bool) (rd : Ready d s z e id (length plan) rows) where
   pub ready-room : length (listOf d id) ≤ length plan
   ready-room = omega (arith, rd .count, ap length (rd .whole))
 

@@ -65,7 +65,7 @@ module _ (d s e : List ℕ) (at p i : ℕ) (size : p - at ≡ 6) (once : getD d 
           let m : 0 < getD e (getD d (at + 3) 0) 0 = t .placed (getD d (at + 3) 0) (array f xs) q .kept .marked in
           let n : getD e (getD d (at + 3) 0) 0 ≡ 0 = rw ref at unmarked in
           absurd (let y : ⊥ = omega arith in y)
-      go z ds l h t r back (row l′) RLO ek q (of-row f m) =
+      go z ds l h t r back (row l′) RLO ek q (of-row m) =
           let x : RowIn d s ds (getD s (getD d (at + 3) 0) 0) l′ = t .placed (getD d (at + 3) 0) (row l′) q .kept .made in
           let ei : v ≡ getD s (getD d (at + 3) 0) 0 = ev ∙ ap (λ n. getD s n 0) ref in
           let f : at + 3 + 2 ≡ at + 5 = omega arith in

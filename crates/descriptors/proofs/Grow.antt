@@ -83,7 +83,7 @@ module _ (d s z e : List ℕ) (ds : List (ℕ × Described)) (p : ℕ) (t : Tabl
   kept-up i (array f xs) n k =
       let ee : getD e′ i 0 ≡ getD e i 0 = getD-set-other e j i ent 0 n in
       let ez : getD z′ i 0 ≡ getD z i 0 = getD-set-other z j i size 0 n in
-      record { entry = ee ∙ k .entry; marked = rw ee (k .marked); proper = k .proper; typed = k .typed; count = rw ez (k .count); lower = rw ez (k .lower) }
+      record { entry = ee ∙ k .entry; marked = rw ee (k .marked); proper = k .proper; typed = k .typed; count = rw ez (k .count); lower = rw ez (k .lower); some-item = k .some-item }
   kept-up i (row l) n k =
       let ee : getD e′ i 0 ≡ getD e i 0 = getD-set-other e j i ent 0 n in
       let es : getD s′ i 0 ≡ getD s i 0 = getD-set-other s j i v 0 n in

@@ -12,7 +12,7 @@ use lib.Dec.{eqb}
 use lib.ListN.{length, getD, set, take, drop, length-drop, length-replicate}
 use lib.Seq.{getD-set-same, length-take-le, getD-take, getD-drop}
 use borrow.Author.Tests.{eq-eqb, ne-eqb, eqb-true}
-use Rattle.fdoca.specs.Basics.{product, lookup, isSome, refuse, ok, _>>=_, _>>_}
+use Rattle.fdoca.specs.Basics.{isEmpty, product, lookup, isSome, refuse, ok, _>>=_, _>>_}
 use Rattle.fdoca.specs.Triplet.{torn, triplet, triplets, Kind, constructOf, idOf, codeOf, extentsOf, Group, groupsOf}
 use Rattle.fdoca.specs.FieldType.{FieldType, typeOf}
 use Rattle.fdoca.specs.Item.{Field}
@@ -21,7 +21,7 @@ use Rattle.fdoca.specs.Check as C
 use Rattle.fdoca.specs.Unfolding.{Described, array, fieldOf, groupFields, addFields, Layouts, closed, closeRow, unfoldSDA, unfoldRow, unfoldCPT, unfoldConstruct, unfoldTriplet, unfoldTriplets, start}
 use Rattle.fdoca.proofs.Results.{ok-of, ok-bind, ok-reject}
 use Rattle.fdoca.specs.Between.{tripletsAt, entry, entries, state}
-use Rattle.fdoca.proofs.Triplets.{triplets-short, triplets-past, triplets-next}
+use Rattle.fdoca.proofs.Triplets.{triplets-empty, triplets-short, triplets-past, triplets-next}
 use Rattle.fdoca.proofs.Count.{entry?, closed-state, lookup-entries, check-triplet}
 use Rattle.fields.specs.Plan.{entryOf, Proper}
 use Rattle.fields.proofs.Parts.{entry-given, entry-code}
@@ -63,17 +63,20 @@ module _ (d s z e : List ℕ) (p n : ℕ) (x : Step) (u : Layouts) (h : Holds d 
   next : tripletsAt d p ≡ triplet p t ∷ tripletsAt d (p + n)
   next = rw en (triplets-next d p there (omega arith) (omega arith))
 
-  pub refused-here : (m : ℕ) → checkTriplet (state u) (triplet p t) ≡ refuse m p → checkTriplets begin (triplets d) ≡ refuse m p
+  last-is : isEmpty (tripletsAt d (p + n)) ≡ eqb (p + n) (length d)
+  last-is = triplets-empty d (p + n) (omega arith)
+
+  pub refused-here : (m : ℕ) → checkTriplet (eqb (p + n) (length d)) (state u) (triplet p t) ≡ refuse m p → checkTriplets begin (triplets d) ≡ refuse m p
   unfolding checkTriplets
-  refused-here m q = h .checking ∙ rw (next, q)
+  refused-here m q = h .checking ∙ rw (next, last-is, q)
 
-  pub checked-on : (v : State) → checkTriplet (state u) (triplet p t) ≡ ok v → v ≡ state (unfoldTriplet u (triplet p t))
-  checked-on v q = ok-of (rw q at (check-triplet u (triplet p t)))
+  pub checked-on : (v : State) → checkTriplet (eqb (p + n) (length d)) (state u) (triplet p t) ≡ ok v → v ≡ state (unfoldTriplet u (triplet p t))
+  checked-on v q = ok-of (rw q at (check-triplet (eqb (p + n) (length d)) u (triplet p t)))
 
-  pub checking-on : (v : State) → checkTriplet (state u) (triplet p t) ≡ ok v
+  pub checking-on : (v : State) → checkTriplet (eqb (p + n) (length d)) (state u) (triplet p t) ≡ ok v
       → checkTriplets begin (triplets d) ≡ checkTriplets (state (unfoldTriplet u (triplet p t))) (tripletsAt d (p + n))
   unfolding checkTriplets
-  checking-on v q = h .checking ∙ rw (next, q) (ap (λ w. checkTriplets w (tripletsAt d (p + n))) (checked-on v q))
+  checking-on v q = h .checking ∙ rw (next, last-is, q) (ap (λ w. checkTriplets w (tripletsAt d (p + n))) (checked-on v q))
 
   pub unfolding-on : unfoldTriplets start (triplets d) ≡ unfoldTriplets (unfoldTriplet u (triplet p t)) (tripletsAt d (p + n))
   unfolding unfoldTriplets
@@ -94,23 +97,23 @@ sda-free es p t v q =
     let b = ok-reject (not (goodSDA t)) 6 p _ v (a .1) in
     ok-reject (isDescribed (idOf t) es) 7 p _ v (b .1) .0
 
-row-free : (kind : Kind) (es : List (ℕ × Entry)) (p : ℕ) (t : List ℕ) (v : State) → checkRow kind es p t ≡ ok v
-    → (isDescribed (idOf t) es ≡ false) × ((m : ℕ) × (addGroups kind p es 0 (groupsOf t) ≡ ok m))
+row-free : (kind : Kind) (last : Bool) (es : List (ℕ × Entry)) (p : ℕ) (t : List ℕ) (v : State) → checkRow kind last es p t ≡ ok v
+    → (isDescribed (idOf t) es ≡ false) × ((m : ℕ) × (addGroups kind last p es 0 (groupsOf t) ≡ ok m))
 unfolding checkRow
-row-free kind es p t v q =
+row-free kind last es p t v q =
     let a = ok-reject (not (goodLengthRow t)) 5 p _ v q in
     let b = ok-reject (eqb (idOf t) 0) 6 p _ v (a .1) in
     let c = ok-reject (isDescribed (idOf t) es) 7 p _ v (b .1) in
-    let g = ok-bind (addGroups kind p es 0 (groupsOf t)) (λ n. ok (rowAtHand kind (idOf t) n es)) v (c .1) in
+    let g = ok-bind (addGroups kind last p es 0 (groupsOf t)) (λ n. ok (rowAtHand kind (idOf t) n es)) v (c .1) in
     (c .0, (g .0, g .1))
 
-cpt-added : (kind : Kind) (es : List (ℕ × Entry)) (id sum p : ℕ) (t : List ℕ) (v : State) → checkCPT (rowAtHand kind id sum es) p t ≡ ok v
-    → (m : ℕ) × (addGroups kind p es sum (groupsOf t) ≡ ok m)
+cpt-added : (kind : Kind) (last : Bool) (es : List (ℕ × Entry)) (id sum p : ℕ) (t : List ℕ) (v : State) → checkCPT last (rowAtHand kind id sum es) p t ≡ ok v
+    → (m : ℕ) × (addGroups kind last p es sum (groupsOf t) ≡ ok m)
 unfolding checkCPT
-cpt-added kind es id sum p t v q =
+cpt-added kind last es id sum p t v q =
     let a = ok-reject (not (goodLengthRow t)) 5 p _ v q in
     let b = ok-reject (not (eqb (idOf t) 0)) 6 p _ v (a .1) in
-    let g = ok-bind (addGroups kind p es sum (groupsOf t)) (λ n. ok (rowAtHand kind id n es)) v (b .1) in
+    let g = ok-bind (addGroups kind last p es sum (groupsOf t)) (λ n. ok (rowAtHand kind id n es)) v (b .1) in
     (g .0, g .1)
 
 -- the size of an SDA
@@ -132,7 +135,7 @@ module _ (d s z e s′ z′ e′ : List ℕ) (p n : ℕ) (x r : Step) (u : Layou
   abbrev sda : List ℕ
   sda = take n (drop p d)
 
-  sda-checked : checkTriplet (state u) (triplet p sda) ≡ checkSDA (entries (closed u)) p sda
+  sda-checked : checkTriplet (eqb (p + n) (length d)) (state u) (triplet p sda) ≡ checkSDA (entries (closed u)) p sda
   unfolding checkTriplet checkConstruct
   sda-checked = rw kind (ap (λ es. checkSDA es p sda) (closed-state u))
 
@@ -163,7 +166,7 @@ module _ (d s z e s′ z′ e′ : List ℕ) (p n : ℕ) (x r : Step) (u : Layou
       let lz : getD (set z′ (idOf sda) (product xs + 65536 * lowerOf xs)) (idOf sda) 0 ≡ product xs + 65536 * lowerOf xs =
       getD-set-same z′ (idOf sda) (product xs + 65536 * lowerOf xs) 0 (omega (arith, w .id-fits, tb .sizes .1)) in
       let kept : SdaKept (set z′ (idOf sda) (product xs + 65536 * lowerOf xs)) (set e′ (idOf sda) (w .entry)) (idOf sda) f xs =
-      record { entry = le ∙ ee; marked = rw (le, ee) (entry-given f pr); proper = pr; typed = ty .1; count = rw lz (sz .0); lower = rw lz (sz .1) } in
+      record { entry = le ∙ ee; marked = rw (le, ee) (entry-given f pr); proper = pr; typed = ty .1; count = rw lz (sz .0); lower = rw lz (sz .1); some-item = good-positive sda g } in
       let tb′ : Tables d (set s′ (idOf sda) p) (set z′ (idOf sda) (product xs + 65536 * lowerOf xs)) (set e′ (idOf sda) (w .entry)) ((idOf sda, array f xs) ∷ closed u) (p + n) =
       tables-put d s′ z′ e′ (closed u) p tb (idOf sda) p (product xs + 65536 * lowerOf xs) (w .entry) (array f xs) free (w .id-fits) (p + n) (omega arith) (omega arith) sized kept in
       let k : Holds d s″ z″ e″ (p + n) r v =
@@ -194,11 +197,11 @@ countIn (some q) = q .1
 
 -- an RLO or a GDA, by its construct type
 module _ (t : List ℕ) (p : ℕ) (kind : (getD t 1 0 ≡ 0x71) ⊎ (getD t 1 0 ≡ 0x75)) where
-  row-checks : (st : State) → checkTriplet st (triplet p t) ≡ checkRow (kindOf (getD t 1 0)) (C.closed st) p t
+  row-checks : (last : Bool) (st : State) → checkTriplet last st (triplet p t) ≡ checkRow (kindOf (getD t 1 0)) last (C.closed st) p t
   unfolding checkTriplet checkConstruct kindOf
-  row-checks st = go kind
+  row-checks last st = go kind
     where
-      go : (getD t 1 0 ≡ 0x71) ⊎ (getD t 1 0 ≡ 0x75) → checkTriplet st (triplet p t) ≡ checkRow (kindOf (getD t 1 0)) (C.closed st) p t
+      go : (getD t 1 0 ≡ 0x71) ⊎ (getD t 1 0 ≡ 0x75) → checkTriplet last st (triplet p t) ≡ checkRow (kindOf (getD t 1 0)) last (C.closed st) p t
       go (inl q) = rw q
       go (inr q) = rw q
 
@@ -220,7 +223,7 @@ module _ (t : List ℕ) (p : ℕ) (kind : (getD t 1 0 ≡ 0x71) ⊎ (getD t 1 0 
 -- behind an RLO or a GDA
 module _ (d s z e s′ z′ e′ : List ℕ) (p n : ℕ) (x r : Step) (u : Layouts) (h : Holds d s z e p x u) (there : p < length d) (en : n ≡ getD d p 0)
     (least : 2 ≤ n) (whole : n ≤ length d - p) (tb : Tables d s′ z′ e′ (closed u) p)
-    (kind : (getD (take n (drop p d)) 1 0 ≡ 0x71) ⊎ (getD (take n (drop p d)) 1 0 ≡ 0x75)) (st : SteppedRow (take n (drop p d)) p s′ z′ e′ r) where
+    (kind : (getD (take n (drop p d)) 1 0 ≡ 0x71) ⊎ (getD (take n (drop p d)) 1 0 ≡ 0x75)) (st : SteppedRow (eqb (p + n) (length d)) (take n (drop p d)) p s′ z′ e′ r) where
   abbrev row : List ℕ
   row = take n (drop p d)
 
@@ -234,8 +237,8 @@ module _ (d s z e s′ z′ e′ : List ℕ) (p n : ℕ) (x r : Step) (u : Layou
   same-own : own ≡ kindAt d p
   same-own = ap kindOf same-type
 
-  row-checked : checkTriplet (state u) (triplet p row) ≡ checkRow own (entries (closed u)) p row
-  row-checked = row-checks row p kind (state u) ∙ ap (λ es. checkRow own es p row) (closed-state u)
+  row-checked : checkTriplet (eqb (p + n) (length d)) (state u) (triplet p row) ≡ checkRow own (eqb (p + n) (length d)) (entries (closed u)) p row
+  row-checked = row-checks row p kind (eqb (p + n) (length d)) (state u) ∙ ap (λ es. checkRow own (eqb (p + n) (length d)) es p row) (closed-state u)
 
   abbrev made : List Field
   made = addFields own (closed u) [] (groupsOf row)
@@ -247,15 +250,15 @@ module _ (d s z e s′ z′ e′ : List ℕ) (p n : ℕ) (x r : Step) (u : Layou
   row-on : r .number ≡ 0 → Held d s′ z′ e′ (p + n) r
   unfolding groupsAt
   row-on q =
-      let c : checkRow own (entries (closed u)) p row ≡ ok (rowAtHand own (idOf row) (r .count) (entries (closed u))) = st .accepts (entries (closed u)) (tb .agrees) q in
+      let c : checkRow own (eqb (p + n) (length d)) (entries (closed u)) p row ≡ ok (rowAtHand own (idOf row) (r .count) (entries (closed u))) = st .accepts (entries (closed u)) (tb .agrees) q in
       let v : Layouts = record { described = closed u; current = some (idOf row, made, own) } in
-      let a = row-free own (entries (closed u)) p row _ c in
+      let a = row-free own (eqb (p + n) (length d)) (entries (closed u)) p row _ c in
       let free : lookup (idOf row) (closed u) ≡ none = not-known (closed u) (idOf row) (a .0) in
       let gd : GoodRow row = st .good q in
       let sz : length row ≡ n = length-take-le n (drop p d) (omega (arith, length-drop p d)) in
       let fits : p + n ≤ length d = omega arith in
       let refs : AllGroups (RefersIn own s′ (closed u) p) (groupsOf row) =
-      groups-refer own s′ (closed u) p p 0 (a .1 .0) (groupsOf row) (λ i D k. let w : Placed d s′ z′ e′ (closed u) p i D = tb .placed i D k in (w .before, w .id-fits)) (a .1 .1) in
+      groups-refer own (eqb (p + n) (length d)) s′ (closed u) p p 0 (a .1 .0) (groupsOf row) (λ i D k. let w : Placed d s′ z′ e′ (closed u) p i D = tb .placed i D k in (w .before, w .id-fits)) (a .1 .1) in
       let tl = st .told q in
       let same : rowAtHand own (idOf row) (r .count) (entries (closed u)) ≡ state v =
       rw row-made at (checked-on d s z e p n x u h there en least whole _ (row-checked ∙ c)) in
@@ -311,15 +314,15 @@ add-append kind ds l (g ∷ gs) hs = add-append kind ds (l ++ groupFields kind d
 
 -- behind a CPT
 module _ (d s z e : List ℕ) (p n : ℕ) (x r : Step) (u : Layouts) (h : Holds d s z e p x u) (there : p < length d) (en : n ≡ getD d p 0)
-    (least : 2 ≤ n) (whole : n ≤ length d - p) (kind : getD (take n (drop p d)) 1 0 ≡ 0x7F) (st : SteppedCPT (take n (drop p d)) s z e x r) where
+    (least : 2 ≤ n) (whole : n ≤ length d - p) (kind : getD (take n (drop p d)) 1 0 ≡ 0x7F) (st : SteppedCPT (eqb (p + n) (length d)) (take n (drop p d)) s z e x r) where
   abbrev cpt : List ℕ
   cpt = take n (drop p d)
 
-  cpt-checked : checkTriplet (state u) (triplet p cpt) ≡ checkCPT (state u) p cpt
+  cpt-checked : checkTriplet (eqb (p + n) (length d)) (state u) (triplet p cpt) ≡ checkCPT (eqb (p + n) (length d)) (state u) p cpt
   unfolding checkTriplet checkConstruct
   cpt-checked = rw kind
 
-  cpt-alone : u .current ≡ none → checkCPT (state u) p cpt ≡ refuse 4 p
+  cpt-alone : u .current ≡ none → checkCPT (eqb (p + n) (length d)) (state u) p cpt ≡ refuse 4 p
   unfolding checkCPT
   cpt-alone q = rw q
 
@@ -348,12 +351,12 @@ module _ (d s z e : List ℕ) (p n : ℕ) (x r : Step) (u : Layouts) (h : Holds 
       let ds : List (ℕ × Described) = u .described in
       let es : List (ℕ × Entry) = entries ds in
       let kd : Kind = kindOf (x .head) in
-      let acc : checkCPT (rowAtHand kd (c .0) (x .count) es) p cpt ≡ ok (rowAtHand kd (c .0) (r .count) es) = st .accepts p (c .0) es (h .tables .agrees) (a .at-hand) k in
-      let gr = cpt-added kd es (c .0) (x .count) p cpt _ acc in
+      let acc : checkCPT (eqb (p + n) (length d)) (rowAtHand kd (c .0) (x .count) es) p cpt ≡ ok (rowAtHand kd (c .0) (r .count) es) = st .accepts p (c .0) es (h .tables .agrees) (a .at-hand) k in
+      let gr = cpt-added kd (eqb (p + n) (length d)) es (c .0) (x .count) p cpt _ acc in
       let made′ : List Field = addFields kd ds (c .1) (groupsOf cpt) in
       let v : Layouts = record { described = ds; current = some (c .0, made′, kd) } in
       let ev : unfoldTriplet u (triplet p cpt) ≡ v = rw (a .same-kind) (cpt-unfolds c q) in
-      let whole-check : checkTriplet (state u) (triplet p cpt) ≡ ok (rowAtHand kd (c .0) (r .count) es) = cpt-checked ∙ rw (cpt-state c q (l .2) (a .same-kind)) acc in
+      let whole-check : checkTriplet (eqb (p + n) (length d)) (state u) (triplet p cpt) ≡ ok (rowAtHand kd (c .0) (r .count) es) = cpt-checked ∙ rw (cpt-state c q (l .2) (a .same-kind)) acc in
       let same : rowAtHand kd (c .0) (r .count) es ≡ state v = rw ev at (checked-on d s z e p n x u h there en least whole _ whole-check) in
       let cn : r .count ≡ length made′ = ap (λ (w : State). countIn (w .current)) same in
       let gd : GoodRow cpt = st .good k in
@@ -364,7 +367,7 @@ module _ (d s z e : List ℕ) (p n : ℕ) (x r : Step) (u : Layouts) (h : Holds 
       let far : RowSoFar d s ds p (x .at) (c .1) = a .so-far in
       let hd : kd ≡ kindAt d (x .at) = ap kindOf (a .same-head) in
       let refs : AllGroups (RefersIn (kindAt d (x .at)) s ds (x .at)) (groupsOf cpt) =
-      rw hd at (groups-refer kd s ds p (x .at) (x .count) (gr .0) (groupsOf cpt) (λ i D w. (a .earlier i D w, h .tables .placed i D w .id-fits)) (gr .1)) in
+      rw hd at (groups-refer kd (eqb (p + n) (length d)) s ds p (x .at) (x .count) (gr .0) (groupsOf cpt) (λ i D w. (a .earlier i D w, h .tables .placed i D w .id-fits)) (gr .1)) in
       let head-is : getD d (p + 1) 0 ≡ 0x7F = sym (getD-take n (drop p d) 1 0 (omega arith) ∙ getD-drop p d 1 0) ∙ kind in
       let far′ : RowSoFar d s ds (p + n) (x .at) made′ =
       record {
@@ -433,7 +436,7 @@ module _ (d s z e s′ z′ e′ : List ℕ) (p n m : ℕ) (x r : Step) (u : Lay
   abbrev isd : List ℕ
   isd = take n (drop p d)
 
-  isd-checked : checkTriplet (state u) (triplet p isd) ≡ checkISD (state u) p isd
+  isd-checked : checkTriplet (eqb (p + n) (length d)) (state u) (triplet p isd) ≡ checkISD (state u) p isd
   unfolding checkTriplet checkConstruct
   isd-checked = rw kind
 

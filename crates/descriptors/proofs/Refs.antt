@@ -3,13 +3,12 @@
 use mathlib.Core.Path.{_≡_, refl, sym, ap, _∙_}
 use Prim.Native.Nat.{ℕ, zero, suc, _+_, _*_, _<_}
 use native.Mathlib.Omega.{arith}
-use mathlib.Core.Bool.{not}
+use mathlib.Core.Bool.{Bool, not, _&&_}
 use mathlib.Core.List.{List, [], _∷_}
 use mathlib.Core.Option.{Option, none, some}
 use lib.Dec.{ltb, eqb}
 use lib.ListN.{getD}
-use borrow.Author.Tests.{eqb-false}
-use Rattle.fdoca.specs.Basics.{lookup, ok, _>>=_, _>>_, reject, the}
+use Rattle.fdoca.specs.Basics.{isEmpty, lookup, ok, _>>=_, _>>_, reject, the}
 use Rattle.fdoca.specs.Triplet.{Kind, RLO, GDA, Group, taken, factor}
 use Rattle.fdoca.specs.Check.{maxItems, countTaken, fits, countAdded, addGroup, addGroups}
 use Rattle.fdoca.specs.Unfolding.{Described, array, row}
@@ -21,7 +20,7 @@ use Rattle.descriptors.specs.Holds.{RefersIn}
 use Rattle.descriptors.proofs.Rows.{AllGroups}
 
 -- elements taken that are carried
-takes-of : (k n : ℕ) (D : Described) → countTaken k (entry D) ≡ some n → Takes k D
+pub takes-of : (k n : ℕ) (D : Described) → countTaken k (entry D) ≡ some n → Takes k D
 takes-of zero n D e = all
 takes-of (suc k) n (array f []) e = absurd (let z : _≡_ {A = ℕ} 0 1 = cc in let w : ⊥ = omega arith in w)
 takes-of (suc k) n (array f (x ∷ xs)) e = some-of
@@ -31,21 +30,17 @@ takes-of (suc k) n (row l) e = absurd (let z : _≡_ {A = ℕ} 0 1 = cc in let w
 column-made : (g : Group) (D : Described) → Fitting g D → Makes GDA g D
 column-made g (array f []) (single h) = of-column h
 
-made-of : (kind : Kind) (p m : ℕ) (g : Group) (D : Described) → countAdded kind p g (entry D) ≡ ok m → Makes kind g D
+made-of : (kind : Kind) (ends : Bool) (p m : ℕ) (g : Group) (D : Described) → countAdded kind ends p g (entry D) ≡ ok m → Makes kind g D
 unfolding countAdded
-made-of RLO p m g D e =
-    let a = ok-reject (eqb (factor g) 0) 9 p (the (countTaken (taken g) (entry D)) 9 p >>= (λ k. ok (factor g * k))) m e in
+made-of RLO ends p m g D e =
+    let a = ok-reject (eqb (factor g) 0 && not ends) 9 p (the (countTaken (taken g) (entry D)) 9 p >>= (λ k. ok (factor g * k))) m e in
     let b = ok-bind (the (countTaken (taken g) (entry D)) 9 p) (λ k. ok (factor g * k)) m (a .1) in
-    of-row (positive (factor g) (eqb-false (factor g) 0 (a .0))) (takes-of (taken g) (b .0) D (the-some (countTaken (taken g) (entry D)) (b .0) (b .1)))
+    of-row (takes-of (taken g) (b .0) D (the-some (countTaken (taken g) (entry D)) (b .0) (b .1)))
   where
-    positive : (k : ℕ) → (k ≡ 0 → ⊥) → 0 < k
-    positive zero h = absurd (h refl)
-    positive (suc k) h = omega arith
-
     the-some : (o : Option ℕ) (k : ℕ) → the o 9 p ≡ ok k → o ≡ some k
     the-some none k q = absurd (let z : _≡_ {A = ℕ} 0 1 = cc in let w : ⊥ = omega arith in w)
     the-some (some y) k q = cc
-made-of GDA p m g D e = column-made g D (fitting g D (ok-reject (not (fits g (entry D))) 21 p (ok 1) m e .0))
+made-of GDA ends p m g D e = column-made g D (fitting g D (ok-reject (not (fits g (entry D))) 21 p (ok 1) m e .0))
 
 -- a group that was added
 record Added (kind : Kind) (g : Group) (x : Option Described) : Type 0 where
@@ -53,23 +48,23 @@ record Added (kind : Kind) (g : Group) (x : Option Described) : Type 0 where
   found : x ≡ some to
   makes : Makes kind g to
 
-group-added : (kind : Kind) (p n m : ℕ) (g : Group) (x : Option Described) → addGroup kind p n g (entry? x) ≡ ok m → Added kind g x
+group-added : (kind : Kind) (ends : Bool) (p n m : ℕ) (g : Group) (x : Option Described) → addGroup kind ends p n g (entry? x) ≡ ok m → Added kind g x
 unfolding addGroup
-group-added kind p n m g none e = absurd (let z : _≡_ {A = ℕ} 0 1 = cc in let w : ⊥ = omega arith in w)
-group-added kind p n m g (some D) e =
-    let a = ok-bind (countAdded kind p g (entry D)) (λ k. reject (ltb maxItems (n + k)) 10 p >> ok (n + k)) m e in
-    record { to = D; found = refl; makes = made-of kind p (a .0) g D (a .1) }
+group-added kind ends p n m g none e = absurd (let z : _≡_ {A = ℕ} 0 1 = cc in let w : ⊥ = omega arith in w)
+group-added kind ends p n m g (some D) e =
+    let a = ok-bind (countAdded kind ends p g (entry D)) (λ k. reject (ltb maxItems (n + k)) 10 p >> ok (n + k)) m e in
+    record { to = D; found = refl; makes = made-of kind ends p (a .0) g D (a .1) }
 
 -- The groups of a triplet at p, where they are accepted, each refer to an id described before; the positions of these are below q.
-pub groups-refer : (kind : Kind) (s : List ℕ) (ds : List (ℕ × Described)) (p q n m : ℕ) (gs : List Group)
+pub groups-refer : (kind : Kind) (last : Bool) (s : List ℕ) (ds : List (ℕ × Described)) (p q n m : ℕ) (gs : List Group)
     → ((i : ℕ) (D : Described) → lookup i ds ≡ some D → (getD s i 0 < q) × (i < 256))
-    → addGroups kind p (entries ds) n gs ≡ ok m → AllGroups (RefersIn kind s ds q) gs
+    → addGroups kind last p (entries ds) n gs ≡ ok m → AllGroups (RefersIn kind s ds q) gs
 unfolding addGroups
-groups-refer kind s ds p q n m [] t h = tt
-groups-refer kind s ds p q n m (g ∷ gs) t h =
-    let a = ok-bind (addGroup kind p n g (lookup (g .ref) (entries ds))) (λ k. addGroups kind p (entries ds) k gs) m h in
-    let b : Added kind g (lookup (g .ref) ds) = group-added kind p n (a .0) g (lookup (g .ref) ds) (sym (ap (addGroup kind p n g) (lookup-entries (g .ref) ds)) ∙ a .1) in
+groups-refer kind last s ds p q n m [] t h = tt
+groups-refer kind last s ds p q n m (g ∷ gs) t h =
+    let a = ok-bind (addGroup kind (last && isEmpty gs) p n g (lookup (g .ref) (entries ds))) (λ k. addGroups kind last p (entries ds) k gs) m h in
+    let b : Added kind g (lookup (g .ref) ds) = group-added kind (last && isEmpty gs) p n (a .0) g (lookup (g .ref) ds) (sym (ap (addGroup kind (last && isEmpty gs) p n g) (lookup-entries (g .ref) ds)) ∙ a .1) in
     let w = t (g .ref) (b .to) (b .found) in (
       record { to = b .to; known = b .found; back = w .0; id-fits = w .1; makes = b .makes },
-      groups-refer kind s ds p q (a .0) m gs t (a .2),
+      groups-refer kind last s ds p q (a .0) m gs t (a .2),
     )

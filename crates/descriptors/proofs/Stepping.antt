@@ -4,7 +4,7 @@ use mathlib.Core.Path.{_≡_, sym, _∙_}
 use mathlib.Core.Logic.{_≢_}
 use Prim.Native.Nat.{ℕ, _≤_, _<_}
 use native.Mathlib.Omega.{arith}
-use mathlib.Core.Bool.{true}
+use mathlib.Core.Bool.{Bool, true}
 use mathlib.Core.List.{List}
 use lib.ListN.{length, getD}
 use borrow.Author.Tests.{eq-eqb, ne-eqb}
@@ -77,8 +77,8 @@ module _ (t s : List ℕ) (j : Judged) (y : JudgedSDA t s j) where
           small = rw q judged-small;
         }
 
-module _ (t s z e : List ℕ) (j : Sum) (y : JudgedRow t s z e j) (p : ℕ) (r : Step) where
-  pub row-refused : (j .number ≡ 0 → ⊥) → Bare (j .number) r → SteppedRow t p s z e r
+module _ (last : Bool) (t s z e : List ℕ) (j : Sum) (y : JudgedRow last t s z e j) (p : ℕ) (r : Step) where
+  pub row-refused : (j .number ≡ 0 → ⊥) → Bare (j .number) r → SteppedRow last t p s z e r
   row-refused h b =
       record {
         refuses = λ es a q. refusing (j .number) (r .number) p _ _ (y .result p es a) (b .numbered) q;
@@ -89,7 +89,7 @@ module _ (t s z e : List ℕ) (j : Sum) (y : JudgedRow t s z e j) (p : ℕ) (r :
         small = omega (arith, b .no-count);
       }
 
-  pub row-opened : j .number ≡ 0 → r ≡ record { number = 0; head = getD t 1 0; id = getD t 2 0; at = p; count = j .count } → SteppedRow t p s z e r
+  pub row-opened : j .number ≡ 0 → r ≡ record { number = 0; head = getD t 1 0; id = getD t 2 0; at = p; count = j .count } → SteppedRow last t p s z e r
   row-opened h q =
       record {
         refuses = λ es a n. absurd (n (rw q));
@@ -100,11 +100,11 @@ module _ (t s z e : List ℕ) (j : Sum) (y : JudgedRow t s z e j) (p : ℕ) (r :
         small = rw q (y .small);
       }
 
-pub row-judged : (t s z e : List ℕ) (j : Sum) (k : ℕ) → JudgedRow t s z e j → j .number ≡ 0 → k < 3 → k < length t
-row-judged t s z e j k y h l = omega (arith, y .good h .some-there)
+pub row-judged : (last : Bool) (t s z e : List ℕ) (j : Sum) (k : ℕ) → JudgedRow last t s z e j → j .number ≡ 0 → k < 3 → k < length t
+row-judged last t s z e j k y h l = omega (arith, y .good h .some-there)
 
-module _ (t s z e : List ℕ) (x r : Step) where
-  pub cpt-alone : x .head ≡ 0 → Bare 4 r → SteppedCPT t s z e x r
+module _ (last : Bool) (t s z e : List ℕ) (x r : Step) where
+  pub cpt-alone : x .head ≡ 0 → Bare 4 r → SteppedCPT last t s z e x r
   cpt-alone h b =
       record {
         no-row = λ q. b .numbered;
@@ -115,8 +115,8 @@ module _ (t s z e : List ℕ) (x r : Step) where
         small = omega (arith, b .no-count);
       }
 
-  module _ (j : Sum) (y : JudgedCPT (kindOf (x .head)) t s z e (x .count) j) (h : x .head ≡ 0 → ⊥) where
-    pub cpt-refused : (j .number ≡ 0 → ⊥) → Bare (j .number) r → SteppedCPT t s z e x r
+  module _ (j : Sum) (y : JudgedCPT (kindOf (x .head)) last t s z e (x .count) j) (h : x .head ≡ 0 → ⊥) where
+    pub cpt-refused : (j .number ≡ 0 → ⊥) → Bare (j .number) r → SteppedCPT last t s z e x r
     cpt-refused k b =
         record {
           no-row = λ q. absurd (h q);
@@ -127,7 +127,7 @@ module _ (t s z e : List ℕ) (x r : Step) where
           small = omega (arith, b .no-count);
         }
 
-    pub cpt-continued : j .number ≡ 0 → r ≡ record { number = 0; head = x .head; id = x .id; at = x .at; count = j .count } → SteppedCPT t s z e x r
+    pub cpt-continued : j .number ≡ 0 → r ≡ record { number = 0; head = x .head; id = x .id; at = x .at; count = j .count } → SteppedCPT last t s z e x r
     cpt-continued k q =
         record {
           no-row = λ n. absurd (h n);

@@ -2,18 +2,19 @@
 use Prim.Native.Nat.{ℕ, _+_, _-_, _≤_, _<_}
 use mathlib.Core.Path.{_≡_}
 use mathlib.Core.Logic.{_≢_}
-use mathlib.Core.Bool.{Bool, true}
+use mathlib.Core.Bool.{Bool, true, false}
 use mathlib.Core.List.{List, [], _∷_, _++_}
 use mathlib.Core.Option.{Option, none, some}
 use lib.ListN.{length, getD, drop}
 use lib.Dec.{eqb}
-use Rattle.fdoca.specs.Basics.{if_then_else_, product, lookup, Result, refuse, ok}
-use Rattle.fdoca.specs.Triplet.{triplets, Kind, Group, idOf, codeOf, extentsOf}
+use Rattle.fdoca.specs.Basics.{if_then_else_, isSome, product, lookup, Result, refuse, ok}
+use Rattle.fdoca.specs.Triplet.{triplets, lastPlace, Kind, Group, idOf, codeOf, extentsOf}
 use Rattle.fdoca.specs.Item.{Field}
 use Rattle.fdoca.specs.Check.{Entry, goodSDA, checkSDA, checkRow, checkCPT, checkTriplets, begin, check}
-use Rattle.fdoca.specs.Unfolding.{Described, array, row, fieldsOf, Layouts, closed, unfoldTriplets, start, unfolded, addFields}
+use Rattle.fdoca.specs.Unfolding.{Described, array, row, fieldsOf, Layouts, closed, unfoldTriplets, start, unfolded, repeated, addFields}
 use Rattle.fdoca.specs.Between.{tripletsAt, entries, state}
 use Rattle.plans.specs.Tied.{describedBy, kindOf, kindAt, groupsAt, groupsIn, Groups, Makes, SdaKept, Tied, Known, listOf}
+use Rattle.rows.specs.Pass.{passList, PassAt, Room, TiedSome}
 use Rattle.sdas.specs.Tables.{Agrees}
 use Rattle.sdas.specs.Judged.{described}
 use Rattle.sdas.specs.Kept.{PutSDA}
@@ -131,22 +132,22 @@ pub record SteppedSDA (t : List ℕ) (p : ℕ) (s z e s′ z′ e′ : List ℕ)
   pub told : r .number ≡ 0 → (r .head ≡ 0) × (r .id ≡ idOf t) × (r .count ≡ product (extentsOf t))
   pub small : r .count ≤ 4096
 
--- What a step over the bytes t of an RLO or a GDA at p gives.
-pub record SteppedRow (t : List ℕ) (p : ℕ) (s z e : List ℕ) (r : Step) : Type 0 where
-  pub refuses : (es : List (ℕ × Entry)) → Agrees s z e es → r .number ≢ 0 → checkRow (kindOf (getD t 1 0)) es p t ≡ refuse (r .number) p
-  pub accepts : (es : List (ℕ × Entry)) → Agrees s z e es → r .number ≡ 0 → checkRow (kindOf (getD t 1 0)) es p t ≡ ok (rowAtHand (kindOf (getD t 1 0)) (idOf t) (r .count) es)
+-- What a step over the bytes t of an RLO or a GDA at p gives, which may be the last triplet.
+pub record SteppedRow (last : Bool) (t : List ℕ) (p : ℕ) (s z e : List ℕ) (r : Step) : Type 0 where
+  pub refuses : (es : List (ℕ × Entry)) → Agrees s z e es → r .number ≢ 0 → checkRow (kindOf (getD t 1 0)) last es p t ≡ refuse (r .number) p
+  pub accepts : (es : List (ℕ × Entry)) → Agrees s z e es → r .number ≡ 0 → checkRow (kindOf (getD t 1 0)) last es p t ≡ ok (rowAtHand (kindOf (getD t 1 0)) (idOf t) (r .count) es)
   pub told : r .number ≡ 0 → (r .head ≡ getD t 1 0) × (r .id ≡ idOf t) × (r .at ≡ p)
   pub good : r .number ≡ 0 → GoodRow t
   pub id-given : r .number ≡ 0 → (idOf t ≢ 0) × (idOf t < 256)
   pub small : r .count ≤ 4096
 
 -- What a step over a CPT's bytes t gives, x being the step before.
-pub record SteppedCPT (t s z e : List ℕ) (x r : Step) : Type 0 where
+pub record SteppedCPT (last : Bool) (t s z e : List ℕ) (x r : Step) : Type 0 where
   pub no-row : x .head ≡ 0 → r .number ≡ 4
   pub refuses : (p id : ℕ) (es : List (ℕ × Entry)) → Agrees s z e es → x .head ≢ 0 → r .number ≢ 0
-      → checkCPT (rowAtHand (kindOf (x .head)) id (x .count) es) p t ≡ refuse (r .number) p
+      → checkCPT last (rowAtHand (kindOf (x .head)) id (x .count) es) p t ≡ refuse (r .number) p
   pub accepts : (p id : ℕ) (es : List (ℕ × Entry)) → Agrees s z e es → x .head ≢ 0 → r .number ≡ 0
-      → checkCPT (rowAtHand (kindOf (x .head)) id (x .count) es) p t ≡ ok (rowAtHand (kindOf (x .head)) id (r .count) es)
+      → checkCPT last (rowAtHand (kindOf (x .head)) id (x .count) es) p t ≡ ok (rowAtHand (kindOf (x .head)) id (r .count) es)
   pub told : r .number ≡ 0 → (r .head ≡ x .head) × (r .id ≡ x .id) × (r .at ≡ x .at)
   pub good : r .number ≡ 0 → GoodRow t
   pub small : r .count ≤ 4096
@@ -157,26 +158,50 @@ pub record Advanced (d s z e : List ℕ) (p : ℕ) (r : Step) : Type 0 where
   pub accepts : r .number ≡ 0 → Held d s z e (p + getD d p 0) r
   pub moves : r .number ≡ 0 → 2 ≤ getD d p 0
 
--- An accepted descriptor: the tables are tied to it, and `id` describes its unfolding of n fields.
-pub record Ready (d s z e : List ℕ) (id n : ℕ) : Type 0 where
+-- The triplet before p stands at q; behind the last triplet that is the place of the last one.
+pub data LastAt (d : List ℕ) (q p : ℕ) : Type 0 where
+  none-yet : p ≡ 0 → LastAt d q p
+  behind : lastPlace (triplets d) ≡ lastPlace (tripletsAt d q) → q < length d → 2 ≤ getD d q 0 → p ≡ q + getD d q 0 → p ≤ length d → LastAt d q p
+
+-- Rows to the end: the row at hand is an RLO's, and the last byte, which is the last group's repetition, 0.
+unfoldable pub toTheEnd : (head last : ℕ) → Bool
+toTheEnd head last = if eqb head 0 then false else if eqb head 0x75 then false else eqb last 0
+
+abbrev pub lastByte : List ℕ → ℕ
+lastByte d = getD d (length d - 1) 0
+
+-- What is known of the last group where it repeats to the end.
+pub record Repeating (d s e : List ℕ) (head : ℕ) : Type 0 where
+  pub some-there : 0 < length d
+  pub tied : TiedSome d s e
+  pub pass : toTheEnd head (lastByte d) ≡ true → PassAt d (length d - 3)
+
+-- An accepted descriptor: the tables are tied to it, and `id` describes its unfolding of n fields. With rows to the end, its last group makes the
+-- repeated layout.
+pub record Ready (d s z e : List ℕ) (id n : ℕ) (rows : Bool) : Type 0 where
   pub tied : Tied d s z e
   pub known : Known d id
   pub whole : unfolded d ≡ listOf d id
   pub accepted : check d ≡ ok n
   pub count : n ≡ length (unfolded d)
   pub small : n ≤ 4096
+  pub no-rows : rows ≡ false → repeated d ≡ none
+  pub repeats : rows ≡ true → repeated d ≡ some (passList d (length d - 3))
+  pub pass : rows ≡ true → PassAt d (length d - 3)
+  pub room : rows ≡ true → Room d e (length d - 3) 4096
 
 -- The id that was described last, 0 where none is.
 abbrev pub lastId : List (ℕ × Described) → ℕ
 lastId [] = 0
 lastId (r ∷ ds) = r .0
 
--- The check's answer, and for an accepted descriptor the id that describes the block: the last one. A refusal has the id 0.
-abbrev pub examined : Result ℕ → List (ℕ × Described) → Examined
-examined (refuse n p) ds = record { number = n; place = p; items = 0; id = 0 }
-examined (ok n) ds = record { number = 0; place = 0; items = n; id = lastId ds }
+-- The check's answer, and for an accepted descriptor the id that describes the block, the last one, and whether it has rows to the end. A refusal has the
+-- id 0.
+abbrev pub examined : Result ℕ → List (ℕ × Described) → Option (List Field) → Examined
+examined (refuse n p) ds o = record { number = n; place = p; items = 0; id = 0; rows = false }
+examined (ok n) ds o = record { number = 0; place = 0; items = n; id = lastId ds; rows = isSome o }
 
 -- What examining a descriptor gives, with the tables afterwards; on a refusal nothing is said of the tables.
 pub record Examination (d s z e : List ℕ) (r : Examined) : Type 0 where
-  pub result : r ≡ examined (check d) (describedBy d)
-  pub ready : r .number ≡ 0 → Ready d s z e (r .id) (r .items)
+  pub result : r ≡ examined (check d) (describedBy d) (repeated d)
+  pub ready : r .number ≡ 0 → Ready d s z e (r .id) (r .items) (r .rows)

@@ -1,11 +1,14 @@
 // The check of a descriptor, triplet by triplet from left to right.
 ghost use mathlib.Core.Path.{_≡_};
-ghost use Prim.Native.Nat.{_+_, _≤_, _<_};
+ghost use Prim.Native.Nat.{_+_, _-_, _≤_, _<_};
+ghost use mathlib.Core.Bool.{_&&_};
 ghost use lib.ListN.{length, getD, replicate};
 ghost use Rattle.fdoca.specs.Check.{check};
+ghost use Rattle.fdoca.specs.Unfolding.{endless};
+ghost use Rattle.rows.specs.Pass.{passList};
 ghost use Rattle.fdoca.specs.Calls.{checked};
 ghost use Rattle.sdas.specs.Tables.{Agreeing};
-ghost use Rattle.descriptors.specs.Holds.{withGroups, MakesSame, Held, ClosedRow, SteppedSDA, SteppedRow, SteppedCPT, Advanced, Bare, Examination};
+ghost use Rattle.descriptors.specs.Holds.{withGroups, MakesSame, Held, ClosedRow, SteppedSDA, SteppedRow, SteppedCPT, Advanced, Bare, toTheEnd, lastByte, Repeating, Examination};
 use fdoca::Checked;
 use plans::GDA;
 use triplets::RLO;
@@ -20,12 +23,13 @@ pub struct Step {
     pub count: usize,
 }
 
-// What examining a descriptor gives: the check's answer, and the id of the triplet that describes the block.
+// What examining a descriptor gives: the check's answer, the id of the triplet that describes the block, and whether it has rows to the end.
 pub struct Examined {
     pub number: u32,
     pub place: u32,
     pub items: u32,
     pub id: u8,
+    pub rows: bool,
 }
 
 // The construct types.
@@ -117,14 +121,15 @@ fn sda_step(
 fn row_step(
     t: &[u8],
     p: usize,
+    last: bool,
     starts: &[u16; 256],
     sizes: &[u32; 256],
     entries: &[u64; 256],
 ) -> Step
     requires { ⌜ Agreeing (now starts) (now sizes) (now entries) ⌝ }
-    ensures { λ r. ⌜ SteppedRow (now (t .entry)) p (now (starts .entry)) (now (sizes .entry)) (now (entries .entry)) r ⌝ }
+    ensures { λ r. ⌜ SteppedRow last (now (t .entry)) p (now (starts .entry)) (now (sizes .entry)) (now (entries .entry)) r ⌝ }
 {
-    let judged = triplets::judge_row(t, starts, sizes, entries);
+    let judged = triplets::judge_row(t, last, starts, sizes, entries);
     if judged.number != 0 {
         return bare(judged.number);
     }
@@ -141,18 +146,19 @@ fn row_step(
 
 fn cpt_step(
     t: &[u8],
+    last: bool,
     starts: &[u16; 256],
     sizes: &[u32; 256],
     entries: &[u64; 256],
     x: Step,
 ) -> Step
     requires { ⌜ Agreeing (now starts) (now sizes) (now entries) × (x .count ≤ 4096) ⌝ }
-    ensures { λ r. ⌜ SteppedCPT (now (t .entry)) (now (starts .entry)) (now (sizes .entry)) (now (entries .entry)) x r ⌝ }
+    ensures { λ r. ⌜ SteppedCPT last (now (t .entry)) (now (starts .entry)) (now (sizes .entry)) (now (entries .entry)) x r ⌝ }
 {
     if x.head == 0 {
         return bare(4);
     }
-    let judged = triplets::judge_cpt(t, x.head, starts, sizes, entries, x.count);
+    let judged = triplets::judge_cpt(t, x.head, last, starts, sizes, entries, x.count);
     if judged.number != 0 {
         return bare(judged.number);
     }
@@ -198,14 +204,14 @@ fn advance(
     let t = &desc[p..end];
     let kind = t[1];
     if kind == CPT {
-        return cpt_step(t, starts, sizes, entries, x);
+        return cpt_step(t, end == desc.len(), starts, sizes, entries, x);
     }
     close(desc, starts, sizes, entries, p, x);
     if kind == SDA {
         return sda_step(t, p, starts, sizes, entries);
     }
     if has_groups(kind) {
-        return row_step(t, p, starts, sizes, entries);
+        return row_step(t, p, end == desc.len(), starts, sizes, entries);
     }
     if kind == ISD {
         return bare(triplets::judge_isd(t, p));
@@ -213,18 +219,46 @@ fn advance(
     bare(3)
 }
 
-fn answer(number: u32, place: u32, items: u32, id: u8) -> Examined
-    ensures { λ r. ⌜ r ≡ record { number = number; place = place; items = items; id = id } ⌝ }
+fn answer(number: u32, place: u32, items: u32, id: u8, rows: bool) -> Examined
+    ensures { λ r. ⌜ r ≡ record { number = number; place = place; items = items; id = id; rows = rows } ⌝ }
 {
     Examined {
         number: number,
         place: place,
         items: items,
         id: id,
+        rows: rows,
     }
 }
 
-// Examines a descriptor: the check's answer; for an accepted one the tables are then filled for whoever writes its plan.
+// Whether a descriptor has rows to the end (document 02, Q-5): its last group, of an RLO, has repetition 0. `head` is the construct type of the row
+// that its last triplet belongs to, or 0.
+fn to_the_end(desc: &[u8], head: u8) -> bool
+    requires { ⌜ 0 < length (now desc) ⌝ }
+    ensures { λ r. ⌜ r ≡ toTheEnd head (lastByte (now (desc .entry))) ⌝ }
+{
+    if head == 0 {
+        return false;
+    }
+    if head == GDA {
+        return false;
+    }
+    desc[desc.len() - 1] == 0
+}
+
+// Whether there are rows to the end, and these take no data.
+fn takes_nothing(desc: &[u8], starts: &[u16; 256], entries: &[u64; 256], head: u8) -> bool
+    requires { ⌜ Repeating (now desc) (now starts) (now entries) head ⌝ }
+    ensures { λ r. ⌜ r ≡ (toTheEnd head (lastByte (now (desc .entry))) && endless (passList (now (desc .entry)) (length (now (desc .entry)) - 3))) ⌝ }
+{
+    if !to_the_end(desc, head) {
+        return false;
+    }
+    rows::endless(desc, starts, entries, desc.len() - 3)
+}
+
+// Examines a descriptor: the check's answer; for an accepted one the tables are then filled for whoever writes its plan. q is the place of the
+// triplet before p.
 pub fn examine(
     desc: &[u8],
     starts: &mut [u16; 256],
@@ -235,22 +269,28 @@ pub fn examine(
     ensures { λ r. ⌜ Examination (now (desc .entry)) (now (starts .exit)) (now (sizes .exit)) (now (entries .exit)) r ⌝ }
 {
     if 4096 < desc.len() {
-        return answer(1, 0, 0, 0);
+        return answer(1, 0, 0, 0, false);
     }
+    let mut q = 0;
     let mut p = 0;
     let mut x = bare(0);
     while p < desc.len() {
         x = advance(desc, starts, sizes, entries, p, x);
         if x.number != 0 {
-            return answer(x.number as u32, p as u32, 0, 0);
+            return answer(x.number as u32, p as u32, 0, 0, false);
         }
+        q = p;
         p += numbers::wide(desc[p]);
     }
     if x.id == 0 {
-        return answer(11, p as u32, 0, 0);
+        return answer(11, p as u32, 0, 0, false);
     }
     close(desc, starts, sizes, entries, p, x);
-    answer(0, 0, x.count as u32, x.id)
+    if takes_nothing(desc, starts, entries, x.head) {
+        return answer(22, q as u32, 0, 0, false);
+    }
+    let rows = to_the_end(desc, x.head);
+    answer(0, 0, x.count as u32, x.id, rows)
 }
 
 // Checks a descriptor: how many items it describes, or the first reason to refuse it.

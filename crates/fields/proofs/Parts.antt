@@ -11,7 +11,7 @@ use borrow.Author.Tests.{ltb-true, leb-true, eqb-true, ne-eqb}
 use Rattle.fdoca.specs.Basics.{if_then_else_, elem}
 use Rattle.fdoca.specs.Packed.{allBelow}
 use Rattle.fdoca.specs.FieldType.{FieldType, fixedBytes, variableBytes, terminatedBytes, shortBytes, integer, reversedInteger, packedDecimal, hexFloat, reversedFloat, binaryFloat, typeOf, Layout, fixed, Size, bytes, digits, inBytes, Sizes, upTo, oneOf, digitsUpTo, sizeOf, allows, ruleOf}
-use Rattle.fdoca.specs.Item.{Field}
+use Rattle.fdoca.specs.Item.{Field, fieldLength}
 use Rattle.fdoca.proofs.Tests.{and-left, and-right}
 use Rattle.field_types.specs.Rows.{prefixOf, formOf, ruleFor}
 use Rattle.field_types.specs.Parameters.{layoutNumber, sizeNumber}
@@ -141,7 +141,11 @@ pub entry-given : (f : Field) → Proper f → 0 < entryOf f
 unfolding entryOf
 entry-given f h = omega (arith, h .id-given)
 
--- and has its field's type code
+-- and has its field's length and type code
+pub entry-length : (f : Field) → Proper f → entryOf f % 65536 ≡ fieldLength f
+unfolding entryOf
+entry-length f h = omega (arith, h .length-fits)
+
 pub entry-code : (f : Field) → Proper f → entryOf f / 16777216 % 256 ≡ f .code
 unfolding entryOf
 entry-code f h = omega (arith, h .length-fits, h .id-fits, h .code-fits, h .mode-fits)

@@ -1,28 +1,19 @@
--- The text of a descriptor and its data: from the plan on, and from the check on.
+-- The text of a descriptor and its data: from the cut on, and from the check on.
 -- Assumes nothing.
-use mathlib.Core.Path.{_≡_, refl, sym, ap, _∙_}
+use mathlib.Core.Path.{_≡_, sym, ap, _∙_}
 use Prim.Native.Nat.{ℕ, _≤_}
 use native.Mathlib.Omega.{arith}
-use mathlib.Core.List.{List, map}
-use lib.ListN.{length, take, replicate, length-map, length-replicate}
-use lib.Seq.{sets, length-take-le}
+use mathlib.Core.List.{List}
+use lib.ListN.{length, take, replicate, length-replicate}
+use lib.Seq.{length-take-le}
 use borrow.Author.Tests.{le-ltb}
-use Rattle.fdoca.specs.Basics.{Result, refuse, ok}
-use Rattle.fdoca.specs.Item.{Field}
-use Rattle.fdoca.specs.Walk.{Note, walk}
-use Rattle.fdoca.specs.Unfolding.{unfolded}
-use Rattle.fdoca.specs.Dump.{refusedLine, itemLines, textOf, blockNotes}
-use Rattle.fdoca.proofs.Stops.{walk-number}
-use Rattle.fields.specs.Plan.{entryOf, Planned}
-use Rattle.plans.specs.Tied.{listOf}
+use Rattle.fdoca.specs.Dump.{refusedLine, itemLines, blockNotes}
 use Rattle.descriptors.specs.declared.Examined.{Examined}
 use Rattle.descriptors.specs.Holds.{Ready, Examination}
-use Rattle.walks.specs.declared.Stop.{Stop}
-use Rattle.descriptors.proofs.Callers.{for-unfolding, refused-by}
-use Rattle.fdoca.proofs.Cover.{Standing, standing}
-use Rattle.walks.specs.Marks.{markOf, stopOf, Marked, Noted}
-use Rattle.walks.specs.Finding.{IsPlan}
-use Rattle.walks.proofs.Callers.{all-noted, good-marks}
+use Rattle.descriptors.proofs.Callers.{refused-by}
+use Rattle.walks.specs.declared.Passed.{Passed}
+use Rattle.cuts.specs.Cut.{itemsOf, entriesFor, Fitting, CutAs}
+use Rattle.cuts.proofs.Callers.{Items, cut-refused, cut-good, marked-part}
 use Rattle.listing.specs.Put.{Put, Told}
 use Rattle.listing.specs.Lines.{firstLine, entryLines, StartsIn}
 use Rattle.listing.proofs.Putting.{both}
@@ -30,80 +21,60 @@ use Rattle.listing.proofs.Standing.{same-lines, marks-inside}
 
 -- ---- `write_by`
 
-module _ (d s z e plan : List ℕ) (id : ℕ) (ready : Ready d s z e id (length plan)) where
-  module _ (plan′ : List ℕ) (written : plan′ ≡ sets plan 0 (map entryOf (listOf d id))) where
-    plans-it : Planned plan′ (unfolded d)
-    plans-it = for-unfolding d s z e plan id ready plan′ written
+module _ (d s z e : List ℕ) (x : Examined) (rd : Ready d s z e (x .id) (x .items) (x .rows)) (y plan : List ℕ) (c : Passed) (k : CutAs d y plan c) where
+  pub refused-text : (t t′ : List ℕ) (r : ℕ) → (c .number ≡ 0 → ⊥) → Put t t′ 0 r (refusedLine (c .number) (c .place)) → r ≤ 30 → Told t t′ r (length y) (itemsOf d y)
+  refused-text t t′ r h p l = rw (cut-refused d y plan (x .items) (rd .accepted) c k h) (record { put = p; fits = omega arith })
 
-    pub is-plan : IsPlan plan′
-    is-plan = record { fields = unfolded d; planned = plans-it }
+  pub count-few : c .count ≤ 4096
+  count-few = k .few
 
-    module _ (x plan″ : List ℕ) (stop : Stop) (marks : (fs : List Field) → Planned plan′ fs → Marked stop plan″ fs x) where
-      marked : Marked stop plan″ (unfolded d) x
-      marked = marks (unfolded d) plans-it
+  pub count-within : c .count ≤ length plan
+  count-within = k .within
 
-      pub refused-text : (t t′ : List ℕ) (r : ℕ) → (stop .number ≡ 0 → ⊥) → Put t t′ 0 r (refusedLine (stop .number) (stop .place)) → r ≤ 30 → Told t t′ r (length x) (walk (unfolded d) x)
-      unfolding stopOf
-      refused-text t t′ r h p l = record { put = go (walk (unfolded d) x) (marked .answered); fits = omega arith }
-        where
-          go : (w : Result (List Note)) → stop ≡ stopOf w → Put t t′ 0 r (textOf (length x) w)
-          go (refuse n q) a = rw a at p
-          go (ok ns) a = absurd (h (rw a))
+  pub part-counted : c .count ≡ length (take (c .count) plan)
+  part-counted = marked-part d y plan (x .items) (rd .accepted) c k
 
-      -- the notes of a good block
-      record Good : Type 0 where
-        notes : List Note
-        walked : walk (unfolded d) x ≡ ok notes
-        marks-are : plan″ ≡ map markOf notes
-        noted : Noted notes
-        stand : Standing x notes
+  pub part-few : length (take (c .count) plan) ≤ 4096
+  part-few = omega (arith, part-counted, count-few)
 
-      good : stop .number ≡ 0 → Good
-      unfolding stopOf
-      good h = go (walk (unfolded d) x) refl (marked .answered)
-        where
-          go : (w : Result (List Note)) → walk (unfolded d) x ≡ w → stop ≡ stopOf w → Good
-          go (refuse n q) e a =
-              let k : n ≡ 0 = rw a at h in
-              absurd (let y : ⊥ = omega (arith, walk-number (unfolded d) x n q e) in y)
-          go (ok ns) e a =
-              record {
-                notes = ns;
-                walked = e;
-                marks-are = marked .marks ∙ good-marks (unfolded d) x ns e;
-                noted = all-noted plan′ (unfolded d) x ns plans-it e;
-                stand = standing (unfolded d) x ns e;
-              }
+  good : c .number ≡ 0 → Items d y plan c
+  good h = cut-good d y plan (x .items) (rd .accepted) c k h
 
-      pub starts-inside : stop .number ≡ 0 → StartsIn plan″ x
-      starts-inside h = let g = good h in rw (g .marks-are) (marks-inside (g .notes) x (g .noted) (g .stand))
+  pub starts-inside : c .number ≡ 0 → StartsIn (take (c .count) plan) y
+  starts-inside h = let g = good h in rw (g .marks) (marks-inside (g .notes) y (g .noted) (g .stands))
 
-      pub items-text : (t u t′ : List ℕ) (a r : ℕ) → stop .number ≡ 0 → Put t u 0 a (firstLine (length plan″) (length x)) → Put u t′ a r (entryLines 0 plan″ x)
-          → r ≤ 90112 → Told t t′ r (length x) (walk (unfolded d) x)
-      unfolding firstLine
-      items-text t u t′ a r h p q few =
-          let g = good h in
-          let n : length plan″ ≡ length (g .notes) = ap length (g .marks-are) ∙ length-map (g .notes) markOf in
-          let l : entryLines 0 plan″ x ≡ itemLines 0 (g .notes) = ap (λ es. entryLines 0 es x) (g .marks-are) ∙ same-lines 0 (g .notes) x (g .noted) (g .stand) in
-          record { put = rw (g .walked, ← n, ← l) (both p q); fits = few }
+  pub items-text : (t u t′ : List ℕ) (a r : ℕ) → c .number ≡ 0 → Put t u 0 a (firstLine (c .count) (length y)) → Put u t′ a r (entryLines 0 (take (c .count) plan) y)
+      → r ≤ 90112 → Told t t′ r (length y) (itemsOf d y)
+  unfolding firstLine
+  items-text t u t′ a r h p q few =
+      let g = good h in
+      let l : entryLines 0 (take (c .count) plan) y ≡ itemLines 0 (g .notes) = ap (λ es. entryLines 0 es y) (g .marks) ∙ same-lines 0 (g .notes) y (g .noted) (g .stands) in
+      record { put = rw (g .items-are, ← g .count-is, ← l) (both p q); fits = few }
 
 -- ---- `write_block`
 
--- the buffer, of which the plan takes a part
-abbrev buffer : List ℕ
-buffer = replicate 4096 0
+-- the part of the buffer that the plan takes
+module _ (x : Examined) (n : ℕ) (few : n ≤ 4096) where
+  abbrev part : List ℕ
+  part = take n (replicate 4096 0)
+
+  pub part-long : n ≡ length part
+  part-long =
+      let buffer : List ℕ = replicate 4096 0 in
+      let l : length buffer ≡ 4096 = length-replicate {A = ℕ} 4096 0 in
+      sym (length-take-le n buffer (omega arith))
+
+  pub part-fits : n ≡ entriesFor x → Fitting x part
+  part-fits e = sym e ∙ part-long
 
 -- what an examination tells of a descriptor
 module _ (d s z e : List ℕ) (x : Examined) (w : Examination d s z e x) where
   module _ (h : x .number ≡ 0) where
+    pub is-ready : Ready d s z e (x .id) (x .items) (x .rows)
+    is-ready = w .ready h
+
     pub few-items : x .items ≤ 4096
-    few-items = w .ready h .small
-
-    pub part-long : x .items ≡ length (take (x .items) buffer)
-    part-long = sym (length-take-le (x .items) buffer (let l : length buffer ≡ 4096 = length-replicate {A = ℕ} 4096 0 in omega (arith, few-items)))
-
-    pub part-ready : Ready d s z e (x .id) (length (take (x .items) buffer))
-    part-ready = rw (← part-long) (w .ready h)
+    few-items = is-ready .small
 
   module _ (y t t′ : List ℕ) (r : ℕ) (small : length d ≤ 4096) (few : length y ≤ 32768) where
     pub check-text : (x .number ≡ 0 → ⊥) → Put t t′ 0 r (refusedLine (x .number) (x .place)) → r ≤ 30 → Told t t′ r (length y) (blockNotes d y)
@@ -111,6 +82,6 @@ module _ (d s z e : List ℕ) (x : Examined) (w : Examination d s z e x) where
     check-text h p l =
         rw (le-ltb 4096 (length d) small, le-ltb 32768 (length y) few, refused-by d s z e x w h) (record { put = p; fits = omega arith })
 
-    pub walk-text : x .number ≡ 0 → Told t t′ r (length y) (walk (unfolded d) y) → Told t t′ r (length y) (blockNotes d y)
+    pub walk-text : x .number ≡ 0 → Told t t′ r (length y) (itemsOf d y) → Told t t′ r (length y) (blockNotes d y)
     unfolding blockNotes
     walk-text h p = rw (le-ltb 4096 (length d) small, le-ltb 32768 (length y) few, w .ready h .accepted) p

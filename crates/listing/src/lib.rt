@@ -5,12 +5,14 @@ ghost use mathlib.Core.List.{[], _∷_, _++_};
 ghost use lib.ListN.{length};
 ghost use lib.Seq.{sets};
 ghost use Rattle.fdoca.specs.Basics.{if_then_else_, big};
-ghost use Rattle.fdoca.specs.Walk.{walk};
-ghost use Rattle.fdoca.specs.Unfolding.{unfolded};
+ghost use Rattle.fdoca.specs.Walk.{walkBy};
+ghost use Rattle.fdoca.specs.Unfolding.{unfolded, repeated};
 ghost use Rattle.fdoca.specs.Dump.{decimal, nullWord, refusedLine, blockNotes, dump};
 ghost use Rattle.descriptors.specs.Holds.{Ready};
+ghost use Rattle.cuts.specs.Cut.{Fitting};
 ghost use Rattle.listing.specs.Put.{Put, Told};
 ghost use Rattle.listing.specs.Lines.{firstLine, entryLine, entryLines, StartsIn};
+use descriptors::Examined;
 use numbers::pair;
 use terminated::Measured;
 
@@ -134,28 +136,28 @@ fn put_items(text: &mut [u8], first: usize, plan: &[u64], data: &[u8]) -> usize
     at
 }
 
-// The text of the data of an accepted descriptor, with a plan of as many entries as there are items.
+// The text of the data of an accepted descriptor, with a plan that has room.
 fn write_by(
     desc: &[u8],
     starts: &[u16; 256],
     sizes: &[u32; 256],
     entries: &[u64; 256],
-    id: u8,
+    x: Examined,
     plan: &mut [u64],
     data: &[u8],
     text: &mut [u8],
 ) -> usize
-    requires { ⌜ Ready (now desc) (now starts) (now sizes) (now entries) id (length (now plan)) × (length (now «data») ≤ 32768)
+    requires { ⌜ Ready (now desc) (now starts) (now sizes) (now entries) (x .id) (x .items) (x .rows) × Fitting x (now plan) × (length (now «data») ≤ 32768)
         × (90112 ≤ length (now text)) ⌝ }
-    ensures { λ r. ⌜ Told (now (text .entry)) (now (text .exit)) r (length (now («data» .entry))) (walk (unfolded (now (desc .entry))) (now («data» .entry))) ⌝ }
+    ensures { λ r. ⌜ Told (now (text .entry)) (now (text .exit)) r (length (now («data» .entry)))
+        (walkBy (unfolded (now (desc .entry))) (repeated (now (desc .entry))) (now («data» .entry))) ⌝ }
 {
-    plans::write(desc, starts, sizes, entries, plan, id);
-    let stop = walks::mark(plan, data);
-    if stop.number != 0 {
-        return put_refusal(text, stop.number, stop.place);
+    let c = cuts::cut(desc, starts, sizes, entries, x, plan, data);
+    if c.number != 0 {
+        return put_refusal(text, c.number, c.place);
     }
-    let first = put_first(text, plan.len(), data.len());
-    put_items(text, first, plan, data)
+    let first = put_first(text, c.count, data.len());
+    put_items(text, first, &plan[..c.count], data)
 }
 
 // The text of a descriptor and its data.
@@ -171,13 +173,13 @@ fn write_block(desc: &[u8], data: &[u8], text: &mut [u8]) -> usize
         return put_refusal(text, x.number, x.place);
     }
     let mut plan = [0u64; 4096];
-    let n = x.items as usize;
+    let n = cuts::entries(x);
     write_by(
         desc,
         &starts,
         &sizes,
         &entries,
-        x.id,
+        x,
         &mut plan[..n],
         data,
         text,

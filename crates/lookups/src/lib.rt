@@ -3,11 +3,11 @@ ghost use mathlib.Core.Path.{_≡_};
 ghost use Prim.Native.Nat.{_≤_};
 ghost use lib.ListN.{length};
 ghost use Rattle.fdoca.specs.Basics.{refuse};
-ghost use Rattle.fdoca.specs.Unfolding.{unfolded};
 ghost use Rattle.fdoca.specs.Calls.{itemAt};
 ghost use Rattle.descriptors.specs.Holds.{Ready};
-ghost use Rattle.walks.specs.Finding.{foundOf, itemOf};
-ghost use Rattle.lookups.specs.Answer.{FoundAs};
+ghost use Rattle.walks.specs.Finding.{foundOf};
+ghost use Rattle.cuts.specs.Cut.{Fitting};
+ghost use Rattle.lookups.specs.Answer.{itemIn, FoundAs};
 use descriptors::Examined;
 use walks::Found;
 
@@ -19,48 +19,7 @@ pub const FEW: usize = 128;
 
 pub const MANY: usize = 4096;
 
-// One item of an accepted descriptor's block, with a plan of as many entries as there are items.
-fn find_by(
-    desc: &[u8],
-    starts: &[u16; 256],
-    sizes: &[u32; 256],
-    entries: &[u64; 256],
-    id: u8,
-    plan: &mut [u64],
-    data: &[u8],
-    item: u32,
-) -> Found
-    requires { ⌜ Ready (now desc) (now starts) (now sizes) (now entries) id (length (now plan)) × (length (now «data») ≤ 32768) ⌝ }
-    ensures { λ r. ⌜ FoundAs (itemOf (unfolded (now (desc .entry))) (now («data» .entry)) item) (now («data» .entry)) r ⌝ }
-{
-    plans::write(desc, starts, sizes, entries, plan, id);
-    walks::find(plan, data, item)
-}
-
-// One item of an accepted descriptor's block, with a plan in the smaller buffer that holds it.
-fn find_planned(
-    desc: &[u8],
-    starts: &[u16; 256],
-    sizes: &[u32; 256],
-    entries: &[u64; 256],
-    x: Examined,
-    data: &[u8],
-    item: u32,
-) -> Found
-    requires { ⌜ Ready (now desc) (now starts) (now sizes) (now entries) (x .id) (x .items) × (length (now «data») ≤ 32768) ⌝ }
-    ensures { λ r. ⌜ FoundAs (itemOf (unfolded (now (desc .entry))) (now («data» .entry)) item) (now («data» .entry)) r ⌝ }
-{
-    let n = x.items as usize;
-    let id = x.id;
-    if n <= FEW {
-        let mut few = [0u64; FEW];
-        return find_by(desc, starts, sizes, entries, id, &mut few[..n], data, item);
-    }
-    let mut many = [0u64; MANY];
-    find_by(desc, starts, sizes, entries, id, &mut many[..n], data, item)
-}
-
-// No item, for a reason that lies before the items.
+// No item: a refusal's number and place.
 fn not_found(number: u32, place: u32) -> Found
     ensures { λ r. ⌜ r ≡ foundOf (refuse number place) ⌝ }
 {
@@ -73,6 +32,53 @@ fn not_found(number: u32, place: u32) -> Found
         value: 0,
         entry: 0,
     }
+}
+
+// One item of an accepted descriptor's block, once the whole block is known to be good.
+fn find_by(
+    desc: &[u8],
+    starts: &[u16; 256],
+    sizes: &[u32; 256],
+    entries: &[u64; 256],
+    x: Examined,
+    plan: &mut [u64],
+    data: &[u8],
+    item: u32,
+) -> Found
+    requires { ⌜ Ready (now desc) (now starts) (now sizes) (now entries) (x .id) (x .items) (x .rows) × Fitting x (now plan) × (length (now «data») ≤ 32768) ⌝ }
+    ensures { λ r. ⌜ FoundAs (itemIn (now (desc .entry)) (now («data» .entry)) item) (now («data» .entry)) r ⌝ }
+{
+    let c = cuts::cut(desc, starts, sizes, entries, x, plan, data);
+    if c.number != 0 {
+        return not_found(c.number, c.place);
+    }
+    let k = item as usize;
+    if c.count <= k {
+        return not_found(17, 0);
+    }
+    walks::item_of(plan[k], data)
+}
+
+// One item of an accepted descriptor's block, with a plan in the smaller buffer that holds it.
+fn find_planned(
+    desc: &[u8],
+    starts: &[u16; 256],
+    sizes: &[u32; 256],
+    entries: &[u64; 256],
+    x: Examined,
+    data: &[u8],
+    item: u32,
+) -> Found
+    requires { ⌜ Ready (now desc) (now starts) (now sizes) (now entries) (x .id) (x .items) (x .rows) × (length (now «data») ≤ 32768) ⌝ }
+    ensures { λ r. ⌜ FoundAs (itemIn (now (desc .entry)) (now («data» .entry)) item) (now («data» .entry)) r ⌝ }
+{
+    let n = cuts::entries(x);
+    if n <= FEW {
+        let mut few = [0u64; FEW];
+        return find_by(desc, starts, sizes, entries, x, &mut few[..n], data, item);
+    }
+    let mut many = [0u64; MANY];
+    find_by(desc, starts, sizes, entries, x, &mut many[..n], data, item)
 }
 
 // The item of a number, or the refusal.

@@ -1,7 +1,7 @@
 // The numbers that bytes are: one byte, two, signed whole numbers of up to eight in two's complement, of either byte order (document 01,
-// "Field types", X'23' and X'24'), and packed decimals (document 02, Q-1).
+// "Field types", X'23' and X'24'), and packed decimals (document 02, Q-1). Also the smaller of two numbers.
 ghost use mathlib.Core.Path.{_≡_};
-ghost use Prim.Native.Nat.{_+_, _*_, _/_, _^_, _≤_, _<_};
+ghost use Prim.Native.Nat.{_+_, _*_, _/_, _^_, _≤_, _<_, min};
 ghost use mathlib.Core.List.{[], _∷_};
 ghost use mathlib.Core.Option.{none, some};
 ghost use lib.ListN.{length, getD, take, drop};
@@ -29,6 +29,16 @@ pub fn pair(a: u8, b: u8) -> usize
     ensures { λ r. ⌜ (r ≡ big (a ∷ b ∷ [])) × (r < 65536) ⌝ }
 {
     (a as usize) * 256 + (b as usize)
+}
+
+// The smaller of two numbers.
+pub fn least(a: usize, b: usize) -> usize
+    ensures { λ r. ⌜ r ≡ min a b ⌝ }
+{
+    if a < b {
+        return a;
+    }
+    b
 }
 
 // The byte at `i`, counted from the most significant one.

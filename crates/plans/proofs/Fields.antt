@@ -20,14 +20,14 @@ use Rattle.plans.proofs.Lists.{read-back}
 use Rattle.plans.proofs.Rows.{adds-first}
 use Rattle.plans.proofs.Referred.{row-once, row-itself}
 
-abbrev Plan : List Field → Type 0
+abbrev pub Plan : List Field → Type 0
 Plan l = Planned (map entryOf l) l
 
 planned-append : {es es′ : List ℕ} {fs fs′ : List Field} → Planned es fs → Planned es′ fs′ → Planned (es ++ es′) (fs ++ fs′)
 planned-append empty y = y
 planned-append (entry p x) y = entry p (planned-append x y)
 
-plan-append : (l m : List Field) → Plan l → Plan m → Plan (l ++ m)
+pub plan-append : (l m : List Field) → Plan l → Plan m → Plan (l ++ m)
 plan-append l m x y = rw (map-append entryOf l m) (planned-append x y)
 
 plan-repeat : (n : ℕ) (l : List Field) → Plan l → Plan (repeat n l)
@@ -74,7 +74,7 @@ module _ (d s z e : List ℕ) (tied : Tied d s z e) where
   plan-group kind n p h rows g r = go kind (r .to) (r .known) (r .makes)
     where
       go : (kind : Kind) (D : Described) → lookup (g .ref) (describedBy d) ≡ some D → Makes kind g D → Plan (groupFields kind (describedBy d) g)
-      go RLO D o (of-row f t) = plan-repeat (factor g) _ (plan-referred n rows (g .ref) (taken g) D o (omega (arith, r .back)))
+      go RLO D o (of-row t) = plan-repeat (factor g) _ (plan-referred n rows (g .ref) (taken g) D o (omega (arith, r .back)))
       go GDA (array f []) o (of-column good) =
           let k = tied .each (g .ref) (array f []) o in
           rw o (entry (column-proper f (g .byte1) (g .byte2) (k .proper) (k .typed) good) empty)
@@ -87,9 +87,12 @@ module _ (d s z e : List ℕ) (tied : Tied d s z e) where
       plan-groups (kindAt d p) (describedBy d) (Refers (kindAt d p) d s p) (λ g x. plan-group (kindAt d p) n p (omega arith) (plan-rows n) g x)
       (getD d p 0 - 3) (drop (p + 3) d) (r .groups)
 
+  pub planned-taken : (i t : ℕ) (D : Described) → lookup i (describedBy d) ≡ some D → Plan (fieldsReferred t (lookup i (describedBy d)))
+  planned-taken i t D o = plan-referred (suc (getD s i 0)) (plan-rows (suc (getD s i 0))) i t D o (omega arith)
+
   pub planned : (i : ℕ) → Known d i → Planned (map entryOf (listOf d i)) (listOf d i)
   unfolding listOf
-  planned i k = plan-referred (suc (getD s i 0)) (plan-rows (suc (getD s i 0))) i 0 (k .what) (k .known) (omega arith)
+  planned i k = planned-taken i 0 (k .what) (k .known)
 
 -- the numbers are the first of what `write` leaves
 pub first-numbers : (plan : List ℕ) (l : List Field) → length l ≤ length plan → take (length l) (sets plan 0 (map entryOf l)) ≡ map entryOf l

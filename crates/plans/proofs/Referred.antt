@@ -37,7 +37,7 @@ row-itself r = record { head = r .head; fields = refl; groups = r .groups }
 
 module _ (d s z e : List ℕ) (i t : ℕ) (tied : Tied d s z e) where
   -- an entry other than 0 is an SDA's
-  sda-fields : (D : Described) → lookup i (describedBy d) ≡ some D → Takes t D → (getD e i 0 ≡ 0 → ⊥)
+  pub sda-fields : (D : Described) → lookup i (describedBy d) ≡ some D → Takes t D → (getD e i 0 ≡ 0 → ⊥)
       → (f : Field) × (fieldsReferred t (lookup i (describedBy d)) ≡ replicate (entriesTaken (getD z i 0) t) f) × (entryOf f ≡ getD e i 0)
   sda-fields D o h m = go D o h (tied .each i D o)
     where
@@ -47,7 +47,7 @@ module _ (d s z e : List ℕ) (i t : ℕ) (tied : Tied d s z e) where
       go (row l) o h k = absurd (m (k .unmarked))
 
   -- the entry 0 is an RLO's or a GDA's
-  row-fields : (D : Described) → lookup i (describedBy d) ≡ some D → getD e i 0 ≡ 0
+  pub row-fields : (D : Described) → lookup i (describedBy d) ≡ some D → getD e i 0 ≡ 0
       → (fieldsReferred t (lookup i (describedBy d)) ≡ rowList d (getD s i 0)) × RowAt d s (getD s i 0) (rowList d (getD s i 0))
   row-fields D o m = go D o (tied .each i D o)
     where
@@ -57,7 +57,7 @@ module _ (d s z e : List ℕ) (i t : ℕ) (tied : Tied d s z e) where
       go (row l) o k = (ap (fieldsReferred t) o ∙ row-once t l ∙ k .made .fields, row-itself (k .made))
 
 -- one field over and over, in numbers
-same-fields : (l : List Field) (n x : ℕ) (f : Field) → l ≡ replicate n f → entryOf f ≡ x → (map entryOf l ≡ replicate n x) × (length l ≡ n)
+pub same-fields : (l : List Field) (n x : ℕ) (f : Field) → l ≡ replicate n f → entryOf f ≡ x → (map entryOf l ≡ replicate n x) × (length l ≡ n)
 same-fields l n x f u v =
     (ap (map entryOf) u ∙ map-replicate entryOf n f ∙ ap (replicate n) v, ap length u ∙ length-replicate n f)
 
@@ -88,7 +88,7 @@ pub kind-row : (head : ℕ) → (head ≡ 0x75 → ⊥) → kindOf head ≡ RLO
 unfolding kindOf
 kind-row head h = rw (ne-eqb head 0x75 h)
 
-kinds-differ : {A : Type 0} → RLO ≡ GDA → A
+pub kinds-differ : {A : Type 0} → RLO ≡ GDA → A
 kinds-differ e = absurd (let z : _≡_ {A = ℕ} 0 1 = cc in let w : ⊥ = omega arith in w)
 
 module _ (d s z e : List ℕ) (q g at head : ℕ) (tied : Tied d s z e) (k : Refers (kindOf head) d s q (groupAt d g)) (h : head ≡ 0x75) where
@@ -116,29 +116,37 @@ module _ (d s z e : List ℕ) (q g at head : ℕ) (tied : Tied d s z e) (k : Ref
   array-written plan plan′ u = u ∙ rw array-list
 
 -- a group of an RLO
-record RefersRow (d s : List ℕ) (g : ℕ) : Type 0 where
-  to : Described
-  known : lookup (getD d g 0) (describedBy d) ≡ some to
-  repeats : 0 < getD d (g + 2) 0
-  takes : Takes (getD d (g + 1) 0) to
+pub record RefersRow (d : List ℕ) (g : ℕ) : Type 0 where
+  pub to : Described
+  pub known : lookup (getD d g 0) (describedBy d) ≡ some to
+  pub takes : Takes (getD d (g + 1) 0) to
 
-row-refers : (d s : List ℕ) (q g head : ℕ) → Refers (kindOf head) d s q (groupAt d g) → (head ≡ 0x75 → ⊥) → RefersRow d s g
+pub row-refers : (d s : List ℕ) (q g head : ℕ) → Refers (kindOf head) d s q (groupAt d g) → (head ≡ 0x75 → ⊥) → RefersRow d g
 unfolding groupAt
 row-refers d s q g head k h = go (kindOf head) (kind-row head h) (k .makes)
   where
-    go : (m : Kind) → m ≡ RLO → Makes m (groupAt d g) (k .to) → RefersRow d s g
-    go RLO t (of-row f x) = record { to = k .to; known = k .known; repeats = f; takes = x }
+    go : (m : Kind) → m ≡ RLO → Makes m (groupAt d g) (k .to) → RefersRow d g
+    go RLO t (of-row x) = record { to = k .to; known = k .known; takes = x }
     go GDA t x = kinds-differ (sym t)
 
-pub row-repeats : (d s : List ℕ) (q g head : ℕ) → Refers (kindOf head) d s q (groupAt d g) → (head ≡ 0x75 → ⊥) → 1 ≤ getD d (g + 2) 0
-row-repeats d s q g head k h = row-refers d s q g head k h .repeats
-
 module _ (d s z e : List ℕ) (q g at head : ℕ) (tied : Tied d s z e) (k : Refers (kindOf head) d s q (groupAt d g)) (not-array : head ≡ 0x75 → ⊥) where
-  r : RefersRow d s g
+  r : RefersRow d g
   r = row-refers d s q g head k not-array
 
   is-row : kindOf head ≡ RLO
   is-row = kind-row head not-array
+
+  -- no repetition
+  module _ (f : getD d (g + 2) 0 ≡ 0) where
+    pub none-list : groupList d (kindOf head) g ≡ []
+    unfolding groupAt groupList
+    none-list = rw (is-row, f)
+
+    pub none-place : at ≡ at + length (groupList d (kindOf head) g)
+    none-place = rw none-list (omega arith)
+
+    pub none-written : (plan : List ℕ) → plan ≡ sets plan at (map entryOf (groupList d (kindOf head) g))
+    none-written plan = rw none-list
 
   module _ (m : getD e (getD d g 0) 0 ≡ 0 → ⊥) (n : ℕ) (c : n ≡ entriesTaken (getD z (getD d g 0) 0) (getD d (g + 1) 0)) where
     sda-list : (map entryOf (groupList d (kindOf head) g) ≡ replicate (getD d (g + 2) 0 * n) (getD e (getD d g 0) 0)) × (length (groupList d (kindOf head) g) ≡ getD d (g + 2) 0 * n)
@@ -163,7 +171,10 @@ module _ (d s z e : List ℕ) (q g at head : ℕ) (tied : Tied d s z e) (k : Ref
         → plan′ ≡ sets plan at (map entryOf (groupList d (kindOf head) g))
     sda-written plan plan′ u = u ∙ ap (sets plan at) (sym (sda-list .0))
 
-  module _ (m : getD e (getD d g 0) 0 ≡ 0) where
+  module _ (f : getD d (g + 2) 0 ≡ 0 → ⊥) (m : getD e (getD d g 0) 0 ≡ 0) where
+    repeats : 0 < getD d (g + 2) 0
+    repeats = omega arith
+
     abbrev once : List Field
     once = rowList d (getD s (getD d g 0) 0)
 
@@ -175,7 +186,7 @@ module _ (d s z e : List ℕ) (q g at head : ℕ) (tied : Tied d s z e) (k : Ref
     unfolding groupAt groupList
     row-list =
         rw is-row (ap (repeat (getD d (g + 2) 0)) (row-fields d s z e (getD d g 0) (getD d (g + 1) 0) tied (r .to) (r .known) m .0))
-        ∙ repeat-first (getD d (g + 2) 0) once (r .repeats)
+        ∙ repeat-first (getD d (g + 2) 0) once repeats
 
     row-length : length (groupList d (kindOf head) g) ≡ length once + (getD d (g + 2) 0 - 1) * length once
     row-length = ap length row-list ∙ length-append once _ ∙ ap (λ (n : ℕ). length once + n) (length-repeat (getD d (g + 2) 0 - 1) once)

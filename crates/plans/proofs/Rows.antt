@@ -1,4 +1,4 @@
--- The loop of `expand`, over the groups of an RLO or a GDA and of its CPTs: at a group, at the head of a CPT and at the end of the row.
+-- The loop over the groups of an RLO or a GDA and of its CPTs: at a group, at the head of a CPT and at the end of the row; and that of `expand`.
 -- Assumes nothing.
 use mathlib.Core.Path.{_≡_, refl, sym, ap, _∙_, subst}
 use mathlib.Core.List.{List, [], _∷_, _++_, map, map-append, append-nil, append-assoc}
@@ -149,43 +149,35 @@ adds-none kind ds = refl
 pub off : (q t : ℕ) → q + q + 1 ≡ t → q + q < t
 off q t e = omega arith
 
--- ---- the invariant: the fields `done` are written, and the groups that are left give the others of the row at p
+-- ---- the invariant: the groups passed made the fields `done`, and those that are left give the others of the row at p
 
-pub record Going (d s : List ℕ) (p at head : ℕ) (plan₀ plan : List ℕ) (a g end : ℕ) : Type 0 where
+pub record Passed (d s : List ℕ) (p head g end : ℕ) (done : List Field) : Type 0 where
   pub head-is : head ≡ getD d (p + 1) 0
-  pub done : List Field
-  pub written : plan ≡ sets plan₀ at (map entryOf done)
-  pub place : a ≡ at + length done
   pub parts : rowList d p ≡ done ++ addFields (kindAt d p) (describedBy d) [] (left d g end)
   pub fine : Left d s p g end
   pub beyond : p < g
   pub inside : g ≤ length d
-  pub same-length : length plan ≡ length plan₀
 
-module _ (d s : List ℕ) (p at head : ℕ) (plan₀ : List ℕ) where
-  pub start : head ≡ getD d (p + 1) 0 → RowAt d s p (rowList d p) → Going d s p at head plan₀ plan₀ at (p + 3) (p + getD d p 0)
+module _ (d s : List ℕ) (p head : ℕ) where
+  pub none-passed : head ≡ getD d (p + 1) 0 → RowAt d s p (rowList d p) → Passed d s p head (p + 3) (p + getD d p 0) []
   unfolding rowList groupsAt
-  start e r =
+  none-passed e r =
       let q : getD d p 0 - 3 ≡ p + getD d p 0 - (p + 3) = omega arith in
       record {
         head-is = e;
-        done = [];
-        written = refl;
-        place = omega arith;
         parts = ap (λ (n : ℕ). addFields (kindAt d p) (describedBy d) [] (groupsIn n (drop (p + 3) d))) q;
         fine = subst (λ (n : ℕ). Groups (Refers (kindAt d p) d s p) n (drop (p + 3) d)) q (r .groups);
         beyond = omega arith;
         inside = r .head;
-        same-length = refl;
       }
 
-  module _ (plan : List ℕ) (a g end : ℕ) (w : Going d s p at head plan₀ plan a g end) where
+  module _ (g end : ℕ) (done : List Field) (w : Passed d s p head g end done) where
     -- at a group
     module _ (h : g < end) where
       pub within : g + 3 ≤ length d
       within = whole d s p g end h (w .fine)
 
-      refers-back : Refers (kindAt d p) d s p (groupAt d g)
+      pub refers-back : Refers (kindAt d p) d s p (groupAt d g)
       refers-back = parted d s p g end h (w .fine) .0
 
       pub refers : Refers (kindOf head) d s (length d) (groupAt d g)
@@ -199,77 +191,109 @@ module _ (d s : List ℕ) (p at head : ℕ) (plan₀ : List ℕ) where
       unfolding groupAt
       down t e = omega (arith, refers-back .back)
 
-      split : rowList d p ≡ w .done ++ groupList d (kindAt d p) g ++ addFields (kindAt d p) (describedBy d) [] (left d (g + 3) end)
+      -- the fields of the groups behind it
+      abbrev pub rest : List Field
+      rest = addFields (kindAt d p) (describedBy d) [] (left d (g + 3) end)
+
+      pub split : rowList d p ≡ done ++ groupList d (kindOf head) g ++ rest
       unfolding groupList
       split =
-          w .parts
-          ∙ ap (λ (gs : List Group). w .done ++ addFields (kindAt d p) (describedBy d) [] gs) (here d s p g end h (w .fine))
-          ∙ ap (λ (l : List Field). w .done ++ l) (adds-first (kindAt d p) (describedBy d) (groupAt d g) (left d (g + 3) end))
-          ∙ sym (append-assoc (w .done) (groupList d (kindAt d p) g) (addFields (kindAt d p) (describedBy d) [] (left d (g + 3) end)))
+          rw (w .head-is)
+          (w .parts
+          ∙ ap (λ (gs : List Group). done ++ addFields (kindAt d p) (describedBy d) [] gs) (here d s p g end h (w .fine))
+          ∙ ap (λ (l : List Field). done ++ l) (adds-first (kindAt d p) (describedBy d) (groupAt d g) (left d (g + 3) end))
+          ∙ sym (append-assoc done (groupList d (kindAt d p) g) rest))
 
-      pub room : at + length (rowList d p) ≤ length plan₀ → a + length (groupList d (kindOf head) g) ≤ length plan
-      room k =
-          let e : length (rowList d p) ≡ length (w .done) + length (groupList d (kindAt d p) g) + length (addFields (kindAt d p) (describedBy d) [] (left d (g + 3) end)) =
-          ap length split ∙ simp length-append in
-          rw (w .head-is) (omega (arith, w .place, w .same-length))
+      pub one-passed : Passed d s p head (g + 3) end (done ++ groupList d (kindOf head) g)
+      one-passed =
+          let b : p < g = w .beyond in
+          record { head-is = w .head-is; parts = split; fine = others d s p g end h (w .fine); beyond = omega arith; inside = within }
 
-      pub more : (plan′ : List ℕ) (a′ : ℕ) → plan′ ≡ sets plan a (map entryOf (groupList d (kindOf head) g)) → a′ ≡ a + length (groupList d (kindOf head) g)
-          → Going d s p at head plan₀ plan′ a′ (g + 3) end
-      more plan′ a′ u′ v′ =
-          let u : plan′ ≡ sets plan a (map entryOf (groupList d (kindAt d p) g)) = rw (w .head-is) at u′ in
-          let v : a′ ≡ a + length (groupList d (kindAt d p) g) = rw (w .head-is) at v′ in
-          let l : List ℕ = map entryOf (groupList d (kindAt d p) g) in
-          let e : length (w .done ++ groupList d (kindAt d p) g) ≡ length (w .done) + length (groupList d (kindAt d p) g) = length-append (w .done) (groupList d (kindAt d p) g) in
-          let q : a ≡ at + length (map entryOf (w .done)) = w .place ∙ ap (λ (n : ℕ). at + n) (sym (length-map (w .done) entryOf)) in
+    -- behind the end of a triplet
+    module _ (h : end ≤ g) where
+      behind : (endOfCPT d g ≡ 0 → ⊥) → Passed d s p head (g + 3) (endOfCPT d g) done
+      behind c =
           let b : p < g = w .beyond in
           record {
             head-is = w .head-is;
-            done = w .done ++ groupList d (kindAt d p) g;
+            parts = w .parts ∙ ap (λ (gs : List Group). done ++ addFields (kindAt d p) (describedBy d) [] gs) (next d s p g end h c);
+            fine = next-fine d s p g end h c (w .fine);
+            beyond = omega arith;
+            inside = at-cpt d g c .0;
+          }
+
+      pub head-passed : (e : ℕ) → e ≡ endOfCPT d g → (e ≡ 0 → ⊥) → Passed d s p head (g + 3) e done
+      head-passed e u z = subst (λ (n : ℕ). Passed d s p head (g + 3) n done) (sym u) (behind (λ c. z (u ∙ c)))
+
+      pub all-passed : (e : ℕ) → e ≡ endOfCPT d g → e ≡ 0 → rowList d p ≡ done
+      all-passed e u z =
+          let b : p < g = w .beyond in
+          w .parts
+          ∙ ap (λ (gs : List Group). done ++ addFields (kindAt d p) (describedBy d) [] gs) (no-cpt d g (end - g) (omega arith) (omega arith) (sym u ∙ z))
+          ∙ ap (λ (l : List Field). done ++ l) (adds-none (kindAt d p) (describedBy d))
+          ∙ append-nil done
+
+-- ---- and those fields are written
+
+pub record Going (d s : List ℕ) (p at head : ℕ) (plan₀ plan : List ℕ) (a g end : ℕ) : Type 0 where
+  pub done : List Field
+  pub passed : Passed d s p head g end done
+  pub written : plan ≡ sets plan₀ at (map entryOf done)
+  pub place : a ≡ at + length done
+  pub same-length : length plan ≡ length plan₀
+
+module _ (d s : List ℕ) (p at head : ℕ) (plan₀ : List ℕ) where
+  pub start : head ≡ getD d (p + 1) 0 → RowAt d s p (rowList d p) → Going d s p at head plan₀ plan₀ at (p + 3) (p + getD d p 0)
+  start e r = record { done = []; passed = none-passed d s p head e r; written = refl; place = omega arith; same-length = refl }
+
+  module _ (plan : List ℕ) (a g end : ℕ) (w : Going d s p at head plan₀ plan a g end) where
+    -- at a group
+    module _ (h : g < end) where
+      pub room : at + length (rowList d p) ≤ length plan₀ → a + length (groupList d (kindOf head) g) ≤ length plan
+      room k =
+          let l : List Field = groupList d (kindOf head) g in
+          let r : List Field = rest d s p head g end (w .done) (w .passed) h in
+          let e : length (rowList d p) ≡ length (w .done) + length l + length r = ap length (split d s p head g end (w .done) (w .passed) h) ∙ simp length-append in
+          omega (arith, w .place, w .same-length)
+
+      pub more : (plan′ : List ℕ) (a′ : ℕ) → plan′ ≡ sets plan a (map entryOf (groupList d (kindOf head) g)) → a′ ≡ a + length (groupList d (kindOf head) g)
+          → Going d s p at head plan₀ plan′ a′ (g + 3) end
+      more plan′ a′ u v =
+          let m : List Field = groupList d (kindOf head) g in
+          let l : List ℕ = map entryOf m in
+          let e : length (w .done ++ m) ≡ length (w .done) + length m = length-append (w .done) m in
+          let q : a ≡ at + length (map entryOf (w .done)) = w .place ∙ ap (λ (n : ℕ). at + n) (sym (length-map (w .done) entryOf)) in
+          record {
+            done = w .done ++ m;
+            passed = one-passed d s p head g end (w .done) (w .passed) h;
             written =
                 u
                 ∙ ap (λ (m : List ℕ). sets m a l) (w .written)
                 ∙ ap (λ (k : ℕ). sets (sets plan₀ at (map entryOf (w .done))) k l) q
                 ∙ sets-append plan₀ (map entryOf (w .done)) l at
-                ∙ ap (sets plan₀ at) (sym (map-append entryOf (w .done) (groupList d (kindAt d p) g)));
+                ∙ ap (sets plan₀ at) (sym (map-append entryOf (w .done) m));
             place = omega (arith, w .place);
-            parts = split;
-            fine = others d s p g end h (w .fine);
-            beyond = omega arith;
-            inside = within;
             same-length = ap length u ∙ length-sets plan a l ∙ w .same-length;
           }
 
     -- behind the end of a triplet
-    module _ (h : end ≤ g) where
-      behind : (endOfCPT d g ≡ 0 → ⊥) → Going d s p at head plan₀ plan a (g + 3) (endOfCPT d g)
-      behind c =
-          let b : p < g = w .beyond in
+    module _ (h : end ≤ g) (e : ℕ) (u : e ≡ endOfCPT d g) where
+      pub over : (e ≡ 0 → ⊥) → Going d s p at head plan₀ plan a (g + 3) e
+      over z =
           record {
-            head-is = w .head-is;
             done = w .done;
+            passed = head-passed d s p head g end (w .done) (w .passed) h e u z;
             written = w .written;
             place = w .place;
-            parts = w .parts ∙ ap (λ (gs : List Group). w .done ++ addFields (kindAt d p) (describedBy d) [] gs) (next d s p g end h c);
-            fine = next-fine d s p g end h c (w .fine);
-            beyond = omega arith;
-            inside = at-cpt d g c .0;
             same-length = w .same-length;
           }
 
-      pub over : (e : ℕ) → e ≡ endOfCPT d g → (e ≡ 0 → ⊥) → Going d s p at head plan₀ plan a (g + 3) e
-      over e u z = subst (λ (n : ℕ). Going d s p at head plan₀ plan a (g + 3) n) (sym u) (behind (λ c. z (u ∙ c)))
+      module _ (z : e ≡ 0) where
+        all-done : rowList d p ≡ w .done
+        all-done = all-passed d s p head g end (w .done) (w .passed) h e u z
 
-      all-done : endOfCPT d g ≡ 0 → rowList d p ≡ w .done
-      all-done c =
-          let b : p < g = w .beyond in
-          w .parts
-          ∙ ap (λ (gs : List Group). w .done ++ addFields (kindAt d p) (describedBy d) [] gs) (no-cpt d g (end - g) (omega arith) (omega arith) c)
-          ∙ ap (λ (l : List Field). w .done ++ l) (adds-none (kindAt d p) (describedBy d))
-          ∙ append-nil (w .done)
-
-      module _ (e : ℕ) (u : e ≡ endOfCPT d g) (z : e ≡ 0) where
         pub finish-place : a ≡ at + length (rowList d p)
-        finish-place = w .place ∙ ap (λ (l : List Field). at + length l) (sym (all-done (sym u ∙ z)))
+        finish-place = w .place ∙ ap (λ (l : List Field). at + length l) (sym all-done)
 
         pub finish-written : plan ≡ sets plan₀ at (map entryOf (rowList d p))
-        finish-written = w .written ∙ ap (λ (l : List Field). sets plan₀ at (map entryOf l)) (sym (all-done (sym u ∙ z)))
+        finish-written = w .written ∙ ap (λ (l : List Field). sets plan₀ at (map entryOf l)) (sym all-done)

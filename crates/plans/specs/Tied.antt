@@ -9,7 +9,7 @@ use lib.Dec.{ltb, eqb}
 use lib.ListN.{length, getD, drop}
 use Rattle.fdoca.specs.Basics.{if_then_else_, product, lookup}
 use Rattle.fdoca.specs.FieldType.{typeOf}
-use Rattle.fdoca.specs.Triplet.{triplets, Kind, RLO, GDA, Group, taken, factor}
+use Rattle.fdoca.specs.Triplet.{triplets, Kind, RLO, GDA, Group, taken}
 use Rattle.fdoca.specs.Item.{Field}
 use Rattle.fdoca.specs.Check.{goodColumn}
 use Rattle.fdoca.specs.Unfolding.{Described, array, row, fieldsReferred, closed, addFields, unfoldTriplets, start}
@@ -72,9 +72,10 @@ pub data Takes : ℕ → Described → Type 0 where
   all : {D : Described} → Takes 0 D
   some-of : {k x : ℕ} {f : Field} {xs : List ℕ} → Takes (suc k) (array f (x ∷ xs))
 
--- A group makes a list of what it refers to: in an RLO one or more times, in a GDA of an SDA without extents, with a length that is good for its type.
+-- A group makes a list of what it refers to: in an RLO so many times as the factor says, in a GDA of an SDA without extents, with a length that is good
+-- for its type.
 pub data Makes : Kind → Group → Described → Type 0 where
-  of-row : {g : Group} {D : Described} → 0 < factor g → Takes (taken g) D → Makes RLO g D
+  of-row : {g : Group} {D : Described} → Takes (taken g) D → Makes RLO g D
   of-column : {g : Group} {f : Field} → goodColumn (f .code) (g .byte1) (g .byte2) ≡ true → Makes GDA g (array f [])
 
 -- A group of the row at p refers to an id whose triplet stands before p. `s` has the positions.
@@ -91,7 +92,8 @@ pub record RowAt (d s : List ℕ) (p : ℕ) (l : List Field) : Type 0 where
   pub fields : l ≡ rowList d p
   pub groups : Groups (Refers (kindAt d p) d s p) (getD d p 0 - 3) (drop (p + 3) d)
 
--- What is kept of an id that an SDA describes: in `e` its plan entry, in `z` its count and, 65,536 times, the product of its lower extents.
+-- What is kept of an id that an SDA describes: in `e` its plan entry, in `z` its count, which is not 0, and, 65,536 times,
+-- the product of its lower extents.
 pub record SdaKept (z e : List ℕ) (i : ℕ) (f : Field) (xs : List ℕ) : Type 0 where
   pub entry : getD e i 0 ≡ entryOf f
   pub marked : 0 < getD e i 0
@@ -99,6 +101,7 @@ pub record SdaKept (z e : List ℕ) (i : ℕ) (f : Field) (xs : List ℕ) : Type
   pub typed : typeOf (f .code) ≡ some (f .type)
   pub count : getD z i 0 % 65536 ≡ product xs
   pub lower : getD z i 0 / 65536 ≡ lowerOf xs
+  pub some-item : 0 < product xs
 
 -- What is kept of an id that an RLO or a GDA describes: the entry 0, and in `s` the position of a row that makes its list.
 pub record RowKept (d s e : List ℕ) (i : ℕ) (l : List Field) : Type 0 where

@@ -15,7 +15,7 @@ pub const GDA: u8 = 0x75;
 const CPT: u8 = 0x7F;
 
 // Writes n entries from `at` on, and gives the place behind them.
-fn fill(plan: &mut [u64], at: usize, n: usize, entry: u64) -> usize
+pub fn fill(plan: &mut [u64], at: usize, n: usize, entry: u64) -> usize
     requires { ⌜ at + n ≤ length (now plan) ⌝ }
     ensures { λ r. ⌜ r ≡ at + n ⌝ }
     ensures { λ _. ⌜ now (plan .exit) ≡ sets (now (plan .entry)) at (replicate n entry) ⌝ }
@@ -45,7 +45,7 @@ fn copies(plan: &mut [u64], from: usize, to: usize, more: usize) -> usize
 
 // How many items a group takes once of an SDA. The size holds its count and, 65,536 times, the product of its lower extents, by which
 // elements taken above 0 is multiplied.
-fn taken_count(size: u32, taken: u8) -> usize
+pub fn taken_count(size: u32, taken: u8) -> usize
     ensures { λ r. ⌜ (r ≡ entriesTaken size taken) × (r < 16777216) ⌝ }
 {
     if taken == 0 {
@@ -55,7 +55,7 @@ fn taken_count(size: u32, taken: u8) -> usize
 }
 
 // The end of the CPT at g; 0 where none stands there.
-fn cpt_end(desc: &[u8], g: usize) -> usize
+pub fn cpt_end(desc: &[u8], g: usize) -> usize
     requires { ⌜ g ≤ length (now desc) ⌝ }
     ensures { λ r. ⌜ r ≡ endOfCPT (now (desc .entry)) g ⌝ }
 {
@@ -81,7 +81,7 @@ fn column(desc: &[u8], entries: &[u64; 256], plan: &mut [u64], g: usize, at: usi
 }
 
 // Writes the list of the row at p from `at` on, group by group, and gives the place behind it.
-fn expand(
+pub fn expand(
     desc: &[u8],
     starts: &[u16; 256],
     sizes: &[u32; 256],
@@ -113,7 +113,7 @@ fn expand(
 }
 
 // Writes the list of the group at g from `at` on, and gives the place behind it. `head` is the construct type of the row's head. A row that
-// the group refers to is written by going down to it once; its repetitions are copies.
+// the group refers to is written by going down to it once; its repetitions are copies. A factor of 0 adds nothing (document 02, Q-5).
 fn group(
     desc: &[u8],
     starts: &[u16; 256],
@@ -136,6 +136,9 @@ fn group(
     let id = desc[g] as usize;
     let taken = desc[g + 1];
     let factor = desc[g + 2] as usize;
+    if factor == 0 {
+        return at;
+    }
     let entry = entries[id];
     if entry == 0 {
         let once = expand(desc, starts, sizes, entries, plan, starts[id] as usize, at);

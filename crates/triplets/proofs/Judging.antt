@@ -31,12 +31,12 @@ then-ok f n p a = go (eqb n 0)
     go true = refl
     go false = refl
 
-module _ (t s z y : List ℕ) (r : Sum) where
+module _ (last : Bool) (t s z y : List ℕ) (r : Sum) where
   -- the kind of an RLO or a GDA
   abbrev own : Kind
   own = kindOf (getD t 1 0)
 
-  pub row-bad-length : (a : Bool) → r .number ≡ 5 → r .count ≡ 0 → a ≡ goodLengthRow t → a ≡ false → JudgedRow t s z y r
+  pub row-bad-length : (a : Bool) → r .number ≡ 5 → r .count ≡ 0 → a ≡ goodLengthRow t → a ≡ false → JudgedRow last t s z y r
   unfolding checkRow
   row-bad-length a e v h f =
       record {
@@ -47,7 +47,7 @@ module _ (t s z y : List ℕ) (r : Sum) where
         small = omega arith;
       }
 
-  pub cpt-bad-length : (head sum : ℕ) (a : Bool) → r .number ≡ 5 → r .count ≡ 0 → a ≡ goodLengthRow t → a ≡ false → JudgedCPT (kindOf head) t s z y sum r
+  pub cpt-bad-length : (head sum : ℕ) (a : Bool) → r .number ≡ 5 → r .count ≡ 0 → a ≡ goodLengthRow t → a ≡ false → JudgedCPT (kindOf head) last t s z y sum r
   unfolding checkCPT
   cpt-bad-length head sum a e v h f =
       record {
@@ -58,7 +58,7 @@ module _ (t s z y : List ℕ) (r : Sum) where
       }
 
   module _ (a : Bool) (h : a ≡ goodLengthRow t) (f : a ≡ true) where
-    pub row-no-id : r .number ≡ 6 → r .count ≡ 0 → getD t 2 0 ≡ 0 → JudgedRow t s z y r
+    pub row-no-id : r .number ≡ 6 → r .count ≡ 0 → getD t 2 0 ≡ 0 → JudgedRow last t s z y r
     unfolding checkRow
     row-no-id e v g =
         record {
@@ -69,7 +69,7 @@ module _ (t s z y : List ℕ) (r : Sum) where
           small = omega arith;
         }
 
-    pub cpt-reserved : (head sum : ℕ) → r .number ≡ 6 → r .count ≡ 0 → (getD t 2 0 ≡ 0 → ⊥) → JudgedCPT (kindOf head) t s z y sum r
+    pub cpt-reserved : (head sum : ℕ) → r .number ≡ 6 → r .count ≡ 0 → (getD t 2 0 ≡ 0 → ⊥) → JudgedCPT (kindOf head) last t s z y sum r
     unfolding checkCPT
     cpt-reserved head sum e v g =
         record {
@@ -79,7 +79,7 @@ module _ (t s z y : List ℕ) (r : Sum) where
           small = omega arith;
         }
 
-    pub cpt-groups : (head sum : ℕ) → getD t 2 0 ≡ 0 → AddedGroups (kindOf head) (groupsOf t) s z y sum r → JudgedCPT (kindOf head) t s z y sum r
+    pub cpt-groups : (head sum : ℕ) → getD t 2 0 ≡ 0 → AddedGroups (kindOf head) last (groupsOf t) s z y sum r → JudgedCPT (kindOf head) last t s z y sum r
     unfolding checkCPT
     cpt-groups head sum g x =
         record {
@@ -90,7 +90,7 @@ module _ (t s z y : List ℕ) (r : Sum) where
         }
 
     module _ (i : ℕ) (g : getD t 2 0 ≡ 0 → ⊥) (j : i ≡ getD t 2 0) (l : i < 256) where
-      pub row-taken : r .number ≡ 7 → r .count ≡ 0 → (getD s i 0 ≡ 65535 → ⊥) → JudgedRow t s z y r
+      pub row-taken : r .number ≡ 7 → r .count ≡ 0 → (getD s i 0 ≡ 65535 → ⊥) → JudgedRow last t s z y r
       unfolding checkRow
       row-taken e v n =
           record {
@@ -103,7 +103,7 @@ module _ (t s z y : List ℕ) (r : Sum) where
             small = omega arith;
           }
 
-      pub row-groups : getD s i 0 ≡ 65535 → AddedGroups own (groupsOf t) s z y 0 r → JudgedRow t s z y r
+      pub row-groups : getD s i 0 ≡ 65535 → AddedGroups own last (groupsOf t) s z y 0 r → JudgedRow last t s z y r
       unfolding checkRow
       row-groups u x =
           record {

@@ -8,7 +8,7 @@ ghost use Rattle.fdoca.specs.Basics.{elem};
 ghost use Rattle.fdoca.specs.Check.{goodLengthRow, goodLengthISD, goodISD};
 ghost use Rattle.sdas.specs.Tables.{Agreeing};
 ghost use Rattle.plans.specs.Tied.{kindOf};
-ghost use Rattle.triplets.specs.Judged.{summed, CountedElements, CountedColumn, AddedGroup, AddedGroups, JudgedRow, JudgedCPT, JudgedISD};
+ghost use Rattle.triplets.specs.Judged.{summed, leftAtEnd, CountedElements, CountedColumn, AddedGroup, AddedGroups, JudgedRow, JudgedCPT, JudgedISD};
 use plans::GDA;
 use sdas::MOST;
 use sdas::NOWHERE;
@@ -75,13 +75,32 @@ fn total(sum: usize, n: usize) -> Sum
     }
 }
 
-// The count of an RLO with one more group, or the number of the group's refusal. `size` is what the tables have for the id that it refers to.
-fn add_elements(size: u32, taken: u8, factor: u8, sum: usize) -> Sum
+// The count of an RLO with one more group, of repetition factor 0, or the number of the group's refusal: 0 is carried where the group `ends` the
+// descriptor, and the group then adds nothing (document 02, Q-5).
+fn add_rows(size: u32, taken: u8, sum: usize, ends: bool) -> Sum
     requires { ⌜ sum ≤ 4096 ⌝ }
-    ensures { λ r. ⌜ CountedElements size taken factor sum r ⌝ }
+    ensures { λ r. ⌜ CountedElements ends size taken 0 sum r ⌝ }
+{
+    if !ends {
+        return refusal(9);
+    }
+    if taken == 0 {
+        return total(sum, 0);
+    }
+    let product = high(size);
+    if product == 0 {
+        return refusal(9);
+    }
+    total(sum, 0)
+}
+
+// The count of an RLO with one more group, or the number of the group's refusal. `size` is what the tables have for the id that it refers to.
+fn add_elements(size: u32, taken: u8, factor: u8, sum: usize, ends: bool) -> Sum
+    requires { ⌜ sum ≤ 4096 ⌝ }
+    ensures { λ r. ⌜ CountedElements ends size taken factor sum r ⌝ }
 {
     if factor == 0 {
-        return refusal(9);
+        return add_rows(size, taken, sum, ends);
     }
     let times = numbers::wide(factor);
     let count = low(size);
@@ -117,9 +136,18 @@ fn add_column(size: u32, entry: u64, a: u8, b: u8, sum: usize) -> Sum
 }
 
 // A row's count with one more group, by the construct type of the row's head. `start` tells whether the id is described.
-fn add_group(head: u8, start: u16, size: u32, entry: u64, a: u8, b: u8, sum: usize) -> Sum
+fn add_group(
+    head: u8,
+    start: u16,
+    size: u32,
+    entry: u64,
+    a: u8,
+    b: u8,
+    sum: usize,
+    ends: bool,
+) -> Sum
     requires { ⌜ sum ≤ 4096 ⌝ }
-    ensures { λ r. ⌜ AddedGroup (kindOf head) start size entry a b sum r ⌝ }
+    ensures { λ r. ⌜ AddedGroup (kindOf head) ends start size entry a b sum r ⌝ }
 {
     if start == NOWHERE {
         return refusal(8);
@@ -127,22 +155,34 @@ fn add_group(head: u8, start: u16, size: u32, entry: u64, a: u8, b: u8, sum: usi
     if head == GDA {
         return add_column(size, entry, a, b, sum);
     }
-    add_elements(size, a, b, sum)
+    add_elements(size, a, b, sum, ends)
+}
+
+// How many bytes a triplet has from the group on that ends the descriptor. Where the triplet is not the descriptor's last, no group does: 0.
+fn ending(last: bool) -> usize
+    ensures { λ r. ⌜ r ≡ leftAtEnd last ⌝ }
+{
+    if last {
+        return 3;
+    }
+    0
 }
 
 // A row's count with the groups of a triplet of it, or the number of the first refusal among them. Who calls it gives `head` as a constant, so
-// that the compiler can make a loop for each kind.
+// that the compiler can make a loop for each kind. `last` tells whether the triplet is the descriptor's last.
 fn add_groups(
     t: &[u8],
     head: u8,
+    last: bool,
     starts: &[u16; 256],
     sizes: &[u32; 256],
     entries: &[u64; 256],
     sum: usize,
 ) -> Sum
     requires { ⌜ (goodLengthRow (now t) ≡ true) × (sum ≤ 4096) ⌝ }
-    ensures { λ r. ⌜ AddedGroups (kindOf head) (groupsOf (now (t .entry))) (now (starts .entry)) (now (sizes .entry)) (now (entries .entry)) sum r ⌝ }
+    ensures { λ r. ⌜ AddedGroups (kindOf head) last (groupsOf (now (t .entry))) (now (starts .entry)) (now (sizes .entry)) (now (entries .entry)) sum r ⌝ }
 {
+    let end = ending(last);
     let mut n = sum;
     let mut g = 3;
     while g < t.len() {
@@ -155,6 +195,7 @@ fn add_groups(
             t[g + 1],
             t[g + 2],
             n,
+            t.len() - g == end,
         );
         if added.number != 0 {
             return added;
@@ -168,10 +209,16 @@ fn add_groups(
     }
 }
 
-// The count of an RLO or a GDA, or the number of its refusal.
-pub fn judge_row(t: &[u8], starts: &[u16; 256], sizes: &[u32; 256], entries: &[u64; 256]) -> Sum
+// The count of an RLO or a GDA, or the number of its refusal. `last` tells whether it is the descriptor's last triplet.
+pub fn judge_row(
+    t: &[u8],
+    last: bool,
+    starts: &[u16; 256],
+    sizes: &[u32; 256],
+    entries: &[u64; 256],
+) -> Sum
     requires { ⌜ Agreeing (now starts) (now sizes) (now entries) ⌝ }
-    ensures { λ r. ⌜ JudgedRow (now (t .entry)) (now (starts .entry)) (now (sizes .entry)) (now (entries .entry)) r ⌝ }
+    ensures { λ r. ⌜ JudgedRow last (now (t .entry)) (now (starts .entry)) (now (sizes .entry)) (now (entries .entry)) r ⌝ }
 {
     if !row_length(t) {
         return refusal(5);
@@ -185,22 +232,23 @@ pub fn judge_row(t: &[u8], starts: &[u16; 256], sizes: &[u32; 256], entries: &[u
         return refusal(7);
     }
     if head == GDA {
-        return add_groups(t, GDA, starts, sizes, entries, 0);
+        return add_groups(t, GDA, last, starts, sizes, entries, 0);
     }
-    add_groups(t, RLO, starts, sizes, entries, 0)
+    add_groups(t, RLO, last, starts, sizes, entries, 0)
 }
 
 // The count of a row of `sum` items with those of a CPT, or the number of its refusal. `head` is the construct type of the row's head.
 pub fn judge_cpt(
     t: &[u8],
     head: u8,
+    last: bool,
     starts: &[u16; 256],
     sizes: &[u32; 256],
     entries: &[u64; 256],
     sum: usize,
 ) -> Sum
     requires { ⌜ Agreeing (now starts) (now sizes) (now entries) × (sum ≤ 4096) ⌝ }
-    ensures { λ r. ⌜ JudgedCPT (kindOf head) (now (t .entry)) (now (starts .entry)) (now (sizes .entry)) (now (entries .entry)) sum r ⌝ }
+    ensures { λ r. ⌜ JudgedCPT (kindOf head) last (now (t .entry)) (now (starts .entry)) (now (sizes .entry)) (now (entries .entry)) sum r ⌝ }
 {
     if !row_length(t) {
         return refusal(5);
@@ -209,9 +257,9 @@ pub fn judge_cpt(
         return refusal(6);
     }
     if head == GDA {
-        return add_groups(t, GDA, starts, sizes, entries, sum);
+        return add_groups(t, GDA, last, starts, sizes, entries, sum);
     }
-    add_groups(t, RLO, starts, sizes, entries, sum)
+    add_groups(t, RLO, last, starts, sizes, entries, sum)
 }
 
 // LENGTH of an ISD.

@@ -17,7 +17,7 @@ use Rattle.fdoca.proofs.Cover.{walk-covers}
 use Rattle.fields.specs.Plan.{digitsPart, entryOf, Proper, Planned, empty, entry}
 use Rattle.walks.specs.declared.Found.{Found}
 use Rattle.walks.specs.Marks.{markOf, marksFrom, Noted, nothing, item}
-use Rattle.walks.specs.Finding.{foundOf, itemOf, stateFound}
+use Rattle.walks.specs.Finding.{foundOf, stateFound}
 use Rattle.fields.proofs.Parts.{entry-code}
 use Rattle.walks.proofs.Parts.{digits-part}
 
@@ -54,9 +54,9 @@ pub good-marks : (fs : List Field) (s : List ℕ) (ns : List Note) → walk fs s
 good-marks fs s ns e = ok-of (rw e at (walk-marks fs s))
 
 -- an item that is found lies within the data, and its field is proper
-record Sound (s : List ℕ) (n : Note) : Type 0 where
-  inside : n .start + itemLength n ≤ length s
-  proper : Proper (n .field)
+pub record Sound (s : List ℕ) (n : Note) : Type 0 where
+  pub inside : n .start + itemLength n ≤ length s
+  pub proper : Proper (n .field)
 
 item-inside : (p : ℕ) (ns : List Note) (k : ℕ) (n : Note) → map (λ i. i .start) ns ≡ positions p (lengths ns) → getElem? ns k ≡ some n → n .start + itemLength n ≤ p + sum (lengths ns)
 item-inside p [] k n h e = absurd (let z : _≡_ {A = ℕ} 0 1 = cc in let o : ⊥ = omega arith in o)
@@ -74,19 +74,16 @@ item-proper nothing k n e = absurd (let z : _≡_ {A = ℕ} 0 1 = cc in let o : 
 item-proper (item {n = x} h t) zero n e = let a : x ≡ n = cc in rw (← a) h
 item-proper (item h t) (suc k) n e = item-proper t k n e
 
-one-of : (s : List ℕ) (o : Option Note) → ((n : Note) → o ≡ some n → Sound s n) → IfOk (Sound s) (the o 17 0)
-one-of s none f = none-owed
-one-of s (some n) f = holds (f n refl)
-
-sound : (es : List ℕ) (fs : List Field) (s : List ℕ) (k : ℕ) → Planned es fs → IfOk (Sound s) (itemOf fs s k)
-unfolding itemOf
-sound es fs s k p =
-    bind-all (walk fs s) (itself (walk fs s))
-    (λ ns e. one-of s (getElem? ns k)
-    (λ n q. record {
-      inside = let w = walk-covers fs s ns e in omega (arith, item-inside 0 ns k n (w .starts) q, w .total);
-      proper = item-proper (all-noted es fs s ns p e) k n q;
-    }))
+-- item k of a block's notes, whose items are laid end to end over the data
+pub sound-item : (s : List ℕ) (ns : List Note) → map (λ i. i .start) ns ≡ positions 0 (lengths ns) → sum (lengths ns) ≡ length s → Noted ns → (k : ℕ)
+    → IfOk (Sound s) (the (getElem? ns k) 17 0)
+sound-item s ns p t m k = go (getElem? ns k) refl
+  where
+    go : (o : Option Note) → getElem? ns k ≡ o → IfOk (Sound s) (the o 17 0)
+    go none q = none-owed
+    go (some n) q =
+        let w : Sound s n = record { inside = omega (arith, item-inside 0 ns k n p q); proper = item-proper m k n q } in
+        holds w
 
 inside-of : (s : List ℕ) (x : Result Note) → IfOk (Sound s) x → foundOf x .start + foundOf x .prefix + foundOf x .value ≤ length s
 unfolding foundOf
@@ -98,16 +95,16 @@ unfolding foundOf
 state-of s (refuse n p) h = refl
 state-of s (ok n) (holds h) = rw (entry-code (n .field) (h .proper))
 
-module _ (es : List ℕ) (fs : List Field) (s : List ℕ) (k : ℕ) (r : Found) (p : Planned es fs) (h : r ≡ foundOf (itemOf fs s k)) where
+module _ (s : List ℕ) (x : Result Note) (w : IfOk (Sound s) x) (r : Found) (h : r ≡ foundOf x) where
   pub found-inside : r .start + r .prefix + r .value ≤ length s
-  found-inside = rw h (inside-of s (itemOf fs s k) (sound es fs s k p))
+  found-inside = rw h (inside-of s x w)
 
-  pub found-state : stateFound r ≡ stateOf (itemOf fs s k)
-  found-state = rw h (state-of s (itemOf fs s k) (sound es fs s k p))
+  pub found-state : stateFound r ≡ stateOf x
+  found-state = rw h (state-of s x w)
 
-  pub found-digits : (n : Note) → itemOf fs s k ≡ ok n → r .entry / 4398046511104 % 64 ≡ digitsPart (n .field .size)
+  pub found-digits : (n : Note) → x ≡ ok n → r .entry / 4398046511104 % 64 ≡ digitsPart (n .field .size)
   unfolding foundOf
   found-digits n e =
-      let q : Proper (n .field) = ok-of (rw e at (sound es fs s k p)) .proper in
+      let q : Proper (n .field) = ok-of (rw e at w) .proper in
       let l : r .entry ≡ entryOf (n .field) = rw (h, e) in
       omega (arith, digits-part (n .field) 0 q)

@@ -1,17 +1,16 @@
 -- The walk in progress: the items noted so far, and the fields that are still ahead.
 -- Assumes nothing.
-use Prim.Native.Nat.{ℕ, _+_, _-_, _*_, _/_, _%_, _<_, _≤_}
+use Prim.Native.Nat.{ℕ, _+_, _-_, _*_, _/_, _%_, _≤_}
 use mathlib.Core.Path.{_≡_, refl, sym, ap, _∙_}
 use mathlib.Core.List.{List, [], _∷_, _++_, map, map-append, append-nil}
 use native.Mathlib.Omega.{arith}
-use lib.ListN.{length, take, drop, length-drop}
+use lib.ListN.{length, take, drop}
 use lib.Seq.{append-snoc, drop-drop}
 use borrow.Rule.Slice.PartAt.{part-to-end}
-use borrow.Author.Tests.{lt-ltb, le-ltb}
 use Rattle.fdoca.specs.Basics.{Result, refuse, ok, _>>=_}
 use Rattle.fdoca.specs.FieldType.{nullable}
 use Rattle.fdoca.specs.Item.{Field, refused, item, measureItem, measure}
-use Rattle.fdoca.specs.Walk.{Note, Cut, noteOf, with, cutFrom, walk}
+use Rattle.fdoca.specs.Walk.{Note, Cut, noteOf, with, cutFrom}
 use Rattle.field_types.specs.Rows.{layoutOf}
 use Rattle.terminated.specs.declared.Measured.{Measured}
 use Rattle.terminated.specs.Answer.{answer}
@@ -33,19 +32,19 @@ noteAt f p m = record { start = p; field = f; isNull = m .null; prefix = m .pref
 abbrev pub behind : List Note → Cut → Cut
 behind ns c = record { notes = ns ++ c .notes; end = c .end; rest = c .rest }
 
--- The walk over the fields fs has noted ns and goes on at p, with the fields of the entries es.
-pub record Going (fs : List Field) (s es : List ℕ) (p : ℕ) (ns : List Note) : Type 0 where
+-- The walk over the fields fs from o on has noted ns and goes on at p, with the fields of the entries es.
+pub record Going (o : ℕ) (fs : List Field) (s es : List ℕ) (p : ℕ) (ns : List Note) : Type 0 where
   pub ahead : List Field
   pub planned : Planned es ahead
-  pub whole : cutFrom 0 fs s ≡ (cutFrom p ahead (drop p s) >>= λ c. ok (behind ns c))
-  pub marked : marksFrom 0 fs s ≡ map markOf ns ++ marksFrom p ahead (drop p s)
+  pub whole : cutFrom o fs (drop o s) ≡ (cutFrom p ahead (drop p s) >>= λ c. ok (behind ns c))
+  pub marked : marksFrom o fs (drop o s) ≡ map markOf ns ++ marksFrom p ahead (drop p s)
 
 none-behind : (r : Result Cut) → r ≡ (r >>= λ c. ok (behind [] c))
 none-behind (refuse n p) = refl
 none-behind (ok c) = refl
 
-pub set-out : (fs : List Field) (s es : List ℕ) → Planned es fs → Going fs s es 0 []
-set-out fs s es h = record { ahead = fs; planned = h; whole = none-behind (cutFrom 0 fs s); marked = refl }
+pub set-out : (o : ℕ) (fs : List Field) (s es : List ℕ) → Planned es fs → Going o fs s es o []
+set-out o fs s es h = record { ahead = fs; planned = h; whole = none-behind (cutFrom o fs (drop o s)); marked = refl }
 
 -- the field of the next entry
 record Next (e : ℕ) (es : List ℕ) (fs : List Field) : Type 0 where
@@ -62,7 +61,7 @@ next (entry {f} {es} {fs} h p) = record { field = f; later = fs; entry-is = refl
 none-left : {fs : List Field} → Planned [] fs → fs ≡ []
 none-left empty = refl
 
-entries-are : {es : List ℕ} {fs : List Field} → Planned es fs → es ≡ map entryOf fs
+pub entries-are : {es : List ℕ} {fs : List Field} → Planned es fs → es ≡ map entryOf fs
 entries-are empty = refl
 entries-are (entry h p) = rw (← entries-are p)
 
@@ -99,7 +98,7 @@ pub entry-numbered : (e : ℕ) (s : List ℕ) → Numbered (measureEntry e s)
 unfolding measureEntry
 entry-numbered e s = numbered-item _ _ _ _ s
 
-module _ {fs : List Field} {s es : List ℕ} {e p : ℕ} {ns : List Note} (m : Measured) (g : Going fs s (e ∷ es) p ns) (h : m ≡ answer (measureEntry e (drop p s))) where
+module _ {o : ℕ} {fs : List Field} {s es : List ℕ} {e p : ℕ} {ns : List Note} (m : Measured) (g : Going o fs s (e ∷ es) p ns) (h : m ≡ answer (measureEntry e (drop p s))) where
   abbrev x : Next e es (g .ahead)
   x = next (g .planned)
 
@@ -107,14 +106,13 @@ module _ {fs : List Field} {s es : List ℕ} {e p : ℕ} {ns : List Note} (m : M
   refused-there z = sym (entry-is-measure (x .field) e (drop p s) (x .entry-is) (x .proper)) ∙ is-refused m (measureEntry e (drop p s)) h z
 
   -- an item refused stops the walk with its number, at its start, and its entry and those behind it are as before
-  pub stops : (m .number ≡ 0 → ⊥) → walk fs s ≡ refuse (m .number) p
-  unfolding walk
+  pub stops : (m .number ≡ 0 → ⊥) → cutFrom o fs (drop o s) ≡ refuse (m .number) p
   stops z =
       let c : cutFrom p (g .ahead) (drop p s) ≡ refuse (m .number) p =
       ap (λ l. cutFrom p l (drop p s)) (x .fields-are) ∙ cut-refused p (m .number) (x .field) (x .later) (drop p s) (refused-there z) in
-      simp (g .whole, c)
+      g .whole ∙ ap (λ r. r >>= λ c. ok (behind ns c)) c
 
-  pub stops-marking : (m .number ≡ 0 → ⊥) → marksFrom 0 fs s ≡ map markOf ns ++ e ∷ es
+  pub stops-marking : (m .number ≡ 0 → ⊥) → marksFrom o fs (drop o s) ≡ map markOf ns ++ e ∷ es
   stops-marking z =
       let c : marksFrom p (g .ahead) (drop p s) ≡ e ∷ es =
       ap (λ l. marksFrom p l (drop p s)) (x .fields-are) ∙ marks-refused p (m .number) (x .field) (x .later) (drop p s) (refused-there z)
@@ -126,7 +124,7 @@ module _ {fs : List Field} {s es : List ℕ} {e p : ℕ} {ns : List Note} (m : M
     pub field : Field
     pub entry-is : e ≡ entryOf field
     pub proper : Proper field
-    pub going : Going fs s es (p + long m) (ns ++ noteAt field p m ∷ [])
+    pub going : Going o fs s es (p + long m) (ns ++ noteAt field p m ∷ [])
 
   pub goes-on : m .number ≡ 0 → Noting
   goes-on z =
@@ -155,30 +153,17 @@ module _ {fs : List Field} {s es : List ℕ} {e p : ℕ} {ns : List Note} (m : M
         };
       }
 
-module _ {fs : List Field} {s : List ℕ} {p : ℕ} {ns : List Note} (g : Going fs s [] p ns) where
-  all-cut : cutFrom 0 fs s ≡ ok (record { notes = ns; end = p; rest = drop p s })
+module _ {o : ℕ} {fs : List Field} {s : List ℕ} {p : ℕ} {ns : List Note} (g : Going o fs s [] p ns) where
+  pub all-cut : cutFrom o fs (drop o s) ≡ ok (record { notes = ns; end = p; rest = drop p s })
   unfolding cutFrom
   all-cut =
       g .whole ∙ ap (λ l. cutFrom p l (drop p s) >>= λ c. ok (behind ns c)) (none-left (g .planned))
       ∙ ap (λ l. ok (record { notes = l; end = p; rest = drop p s })) (append-nil ns)
 
-  pub all-marked : marksFrom 0 fs s ≡ map markOf ns
+  pub all-marked : marksFrom o fs (drop o s) ≡ map markOf ns
   unfolding marksFrom
   all-marked =
       g .marked ∙ ap (λ l. map markOf ns ++ marksFrom p l (drop p s)) (none-left (g .planned)) ∙ append-nil (map markOf ns)
-
-  -- bytes left stop the walk with 16, at the first of them
-  pub has-surplus : p < length s → walk fs s ≡ refuse 16 p
-  unfolding walk
-  has-surplus h =
-      let q : 0 < length (drop p s) = omega (arith, length-drop p s) in
-      simp (all-cut, lt-ltb 0 (length (drop p s)) q)
-
-  pub has-ended : length s ≤ p → walk fs s ≡ ok ns
-  unfolding walk
-  has-ended h =
-      let q : length (drop p s) ≤ 0 = omega (arith, length-drop p s) in
-      simp (all-cut, le-ltb 0 (length (drop p s)) q)
 
 -- the item's answer, from the part of the data that starts with it
 module _ (m : Measured) (e : ℕ) (s : List ℕ) (at : ℕ)

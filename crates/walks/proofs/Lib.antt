@@ -2,6 +2,9 @@ pub mod Parts
 pub mod Going
 pub mod Steps
 pub mod Marking
+pub mod Passing
+pub mod Rows
+pub mod RowCallers
 pub mod Writing
 pub mod Seeking
 pub mod Callers

@@ -2,39 +2,41 @@
 -- Assumes nothing.
 use Prim.Native.Nat.{ℕ, suc, _+_, _-_, _*_, _%_, _<_, _≤_}
 use mathlib.Core.Path.{_≡_, refl, sym, ap, _∙_}
+use mathlib.Core.Logic.{_≢_}
 use mathlib.Core.List.{List, [], _∷_, _++_, map, map-append, append-nil}
 use native.Mathlib.Numerals.{add-one}
 use native.Mathlib.Omega.{arith}
-use lib.ListN.{length, getD, set, drop, length-append, length-map, drop-of-length-le}
+use lib.ListN.{length, getD, set, drop, length-append, length-drop, length-map, drop-of-length-le}
+use borrow.Author.Tests.{lt-ltb, le-ltb}
 use lib.Seq.{drop-cons, append-snoc, set-at, getD-at}
-use Rattle.fdoca.specs.Basics.{refuse, ok}
 use Rattle.fdoca.specs.Item.{Field}
 use Rattle.fdoca.specs.Walk.{Note, walk}
 use Rattle.terminated.specs.declared.Measured.{Measured}
 use Rattle.terminated.specs.Answer.{answer}
 use Rattle.fields.specs.Plan.{Planned}
 use Rattle.walks.specs.declared.Stop.{Stop}
+use Rattle.walks.specs.declared.Reached.{Reached}
 use Rattle.walks.specs.Entry.{measureEntry, Stepped}
-use Rattle.walks.specs.Marks.{stopOf, markOf, marksFrom, Marked}
+use Rattle.walks.specs.Marks.{stopOf, markOf, MarkedPart, Marked}
 use Rattle.walks.proofs.Parts.{entry-part}
 use Rattle.walks.proofs.Steps.{stopped-number, stopped-some, stepped-none, stepped-long}
-use Rattle.walks.proofs.Going.{Going, set-out, long, noteAt, stops, stops-marking, goes-on, all-marked, has-surplus, has-ended}
+use Rattle.walks.proofs.Going.{Going, set-out, long, noteAt, stops, stops-marking, goes-on, all-cut, all-marked}
 
--- es was the plan, now it is es′; k entries are marked, and the walk goes on at p
-pub record MarkingFor (es s es′ : List ℕ) (p k : ℕ) (fs : List Field) : Type 0 where
+-- es was the part of a plan that is walked over from o on, now it is es′; k entries are marked, and the walk goes on at p
+pub record MarkingFor (o : ℕ) (es s es′ : List ℕ) (p k : ℕ) (fs : List Field) : Type 0 where
   pub notes : List Note
-  pub going : Going fs s (drop k es) p notes
+  pub going : Going o fs s (drop k es) p notes
   pub count : length notes ≡ k
   pub plan-is : es′ ≡ map markOf notes ++ drop k es
 
-pub record Marking (es s es′ : List ℕ) (p k : ℕ) : Type 0 where
-  pub each : (fs : List Field) → Planned es fs → MarkingFor es s es′ p k fs
+pub record Marking (o : ℕ) (es s es′ : List ℕ) (p k : ℕ) : Type 0 where
+  pub each : (fs : List Field) → Planned es fs → MarkingFor o es s es′ p k fs
 
-pub mark-start : (es s : List ℕ) → Marking es s es 0 0
-mark-start es s = record { each = λ fs h. record { notes = []; going = set-out fs s es h; count = refl; plan-is = refl } }
+pub mark-start : (o : ℕ) (es s : List ℕ) → Marking o es s es o 0
+mark-start o es s = record { each = λ fs h. record { notes = []; going = set-out o fs s es h; count = refl; plan-is = refl } }
 
 -- the entry at k as it was, and then the entries behind it
-module _ {es s es′ : List ℕ} {p k : ℕ} {fs : List Field} (w : MarkingFor es s es′ p k fs) (i : k < length es) where
+module _ {o : ℕ} {es s es′ : List ℕ} {p k : ℕ} {fs : List Field} (w : MarkingFor o es s es′ p k fs) (i : k < length es) where
   apart : es′ ≡ map markOf (w .notes) ++ getD es k 0 ∷ drop (suc k) es
   apart = w .plan-is ∙ ap (λ l. map markOf (w .notes) ++ l) (drop-cons es k 0 i)
 
@@ -44,21 +46,16 @@ module _ {es s es′ : List ℕ} {p k : ℕ} {fs : List Field} (w : MarkingFor e
   same-entry : getD es′ k 0 ≡ getD es k 0
   same-entry = ap (λ l. getD l k 0) apart ∙ getD-at (map markOf (w .notes)) (getD es k 0) (drop (suc k) es) 0 k before
 
-  at-entry : Going fs s (getD es k 0 ∷ drop (suc k) es) p (w .notes)
+  at-entry : Going o fs s (getD es k 0 ∷ drop (suc k) es) p (w .notes)
   at-entry = rw (drop-cons es k 0 i) at (w .going)
 
-stopped : (r : Stop) (n p : ℕ) (es : List ℕ) (fs : List Field) (s : List ℕ) → walk fs s ≡ refuse n p → es ≡ marksFrom 0 fs s
-    → r ≡ record { number = n; place = p } → Marked r es fs s
-unfolding stopOf
-stopped r n p es fs s e k q = record { answered = rw e q; marks = k }
-
-module _ (es s es′ : List ℕ) (p k step : ℕ) (i : k < length es′) (l : length es′ ≡ length es) (w : Marking es s es′ p k) (small : length s ≤ 32768)
+module _ (o : ℕ) (es s es′ : List ℕ) (p k step : ℕ) (i : k < length es′) (l : length es′ ≡ length es) (w : Marking o es s es′ p k) (small : length s ≤ 32768)
     (t : Stepped (getD es′ k 0) s p step) where
   abbrev m : Measured
   m = answer (measureEntry (getD es′ k 0) (drop p s))
 
   module _ (fs : List Field) (f : Planned es fs) where
-    now : MarkingFor es s es′ p k fs
+    now : MarkingFor o es s es′ p k fs
     now = w .each fs f
 
     inside : k < length es
@@ -67,7 +64,7 @@ module _ (es s es′ : List ℕ) (p k step : ℕ) (i : k < length es′) (l : le
     answer-is : m ≡ answer (measureEntry (getD es k 0) (drop p s))
     answer-is = ap (λ e. answer (measureEntry e (drop p s))) (same-entry now inside)
 
-    more : m .number ≡ 0 → MarkingFor es s (set es′ k (getD es′ k 0 % 281474976710656 + p * 281474976710656)) (p + long m) (suc k) fs
+    more : m .number ≡ 0 → MarkingFor o es s (set es′ k (getD es′ k 0 % 281474976710656 + p * 281474976710656)) (p + long m) (suc k) fs
     unfolding markOf
     more z =
         let n = goes-on m (at-entry now inside) answer-is z in
@@ -85,35 +82,60 @@ module _ (es s es′ : List ℕ) (p k step : ℕ) (i : k < length es′) (l : le
               ∙ ap (λ l. l ++ drop (suc k) es) (sym (map-append markOf (now .notes) (x ∷ [])));
         }
 
-    pub mark-stop : (r : Stop) → 65536 ≤ step → r ≡ record { number = step - 65536; place = p } → Marked r es′ fs s
-    mark-stop r o q =
-        let z : m .number ≡ 0 → ⊥ = stopped-some (getD es′ k 0) s p step small t o in
-        stopped r (m .number) p es′ fs s (stops m (at-entry now inside) answer-is z)
-        (apart now inside ∙ sym (stops-marking m (at-entry now inside) answer-is z))
-        (q ∙ rw (stopped-number (getD es′ k 0) s p step small t o))
+    pub mark-stop : (r : Reached) → 65536 ≤ step → r ≡ record { number = step - 65536; at = p } → MarkedPart r o es′ fs s
+    mark-stop r h q =
+        let z : m .number ≡ 0 → ⊥ = stopped-some (getD es′ k 0) s p step small t h in
+        let a : r ≡ record { number = m .number; at = p } = q ∙ rw (stopped-number (getD es′ k 0) s p step small t h) in
+        record {
+          marks = apart now inside ∙ sym (stops-marking m (at-entry now inside) answer-is z);
+          stops = λ y. rw a (stops m (at-entry now inside) answer-is z);
+          through = λ y. absurd (z (ap (λ x. x .number) (sym a) ∙ y));
+        }
 
-  pub mark-more : step < 65536 → Marking es s (set es′ k (getD es′ k 0 % 281474976710656 + p * 281474976710656)) (p + step) (k + 1)
+  pub mark-more : step < 65536 → Marking o es s (set es′ k (getD es′ k 0 % 281474976710656 + p * 281474976710656)) (p + step) (k + 1)
   mark-more o =
       let z : m .number ≡ 0 = stepped-none (getD es′ k 0) s p step small t o in
       rw (add-one, ← stepped-long (getD es′ k 0) s p step small t o) (record { each = λ fs f. more fs f z })
 
-module _ (es s es′ : List ℕ) (p k : ℕ) (i : length es′ ≤ k) (l : length es′ ≡ length es) (w : Marking es s es′ p k) (r : Stop) (fs : List Field) (f : Planned es fs) where
+module _ (o : ℕ) (es s es′ : List ℕ) (p k : ℕ) (i : length es′ ≤ k) (l : length es′ ≡ length es) (w : Marking o es s es′ p k) (r : Reached) (fs : List Field) (f : Planned es fs) where
   none-left : drop k es ≡ []
   none-left = let h : length es ≤ k = omega arith in drop-of-length-le es h
 
-  through : Going fs s [] p (w .each fs f .notes)
-  through = rw none-left at (w .each fs f .going)
+  all-through : Going o fs s [] p (w .each fs f .notes)
+  all-through = rw none-left at (w .each fs f .going)
 
-  marked-through : es′ ≡ marksFrom 0 fs s
+  marked-through : es′ ≡ map markOf (w .each fs f .notes)
   marked-through =
       w .each fs f .plan-is ∙ ap (λ l. map markOf (w .each fs f .notes) ++ l) none-left ∙ append-nil (map markOf (w .each fs f .notes))
-      ∙ sym (all-marked through)
 
-  pub mark-surplus : p < length s → r ≡ record { number = 16; place = p } → Marked r es′ fs s
-  mark-surplus h q = stopped r 16 p es′ fs s (has-surplus through h) marked-through q
+  pub mark-done : r ≡ record { number = 0; at = p } → MarkedPart r o es′ fs s
+  mark-done q =
+      record {
+        marks = marked-through ∙ sym (all-marked all-through);
+        stops = λ y. absurd (y (ap (λ x. x .number) q));
+        through = λ y. rw q (record { notes = w .each fs f .notes; cut = all-cut all-through; marked = marked-through });
+      }
 
-  pub mark-done : length s ≤ p → r ≡ record { number = 0; place = 0 } → Marked r es′ fs s
-  unfolding stopOf
-  mark-done h q =
-      let e : walk fs s ≡ ok (w .each fs f .notes) = has-ended through h in
-      record { answered = rw e q; marks = marked-through }
+-- the walk over a whole plan from the data's beginning on
+module _ (s es es′ : List ℕ) (r : Reached) (each : (fs : List Field) → Planned es fs → MarkedPart r 0 es′ fs s) (a : Stop) (fs : List Field) (f : Planned es fs) where
+  abbrev x : MarkedPart r 0 es′ fs s
+  x = each fs f
+
+  pub mark-stopped : r .number ≢ 0 → a ≡ record { number = r .number; place = r .at } → Marked a es′ fs s
+  unfolding walk stopOf
+  mark-stopped z q = record { answered = rw (x .stops z) q; marks = x .marks }
+
+  pub mark-surplus : r .number ≡ 0 → r .at < length s → a ≡ record { number = 16; place = r .at } → Marked a es′ fs s
+  unfolding walk stopOf
+  mark-surplus z h q =
+      let k : 0 < length (drop (r .at) s) = omega (arith, length-drop (r .at) s) in
+      record { answered = rw (x .through z .cut, lt-ltb 0 (length (drop (r .at) s)) k) q; marks = x .marks }
+
+  pub mark-ended : r .number ≡ 0 → length s ≤ r .at → a ≡ record { number = 0; place = 0 } → Marked a es′ fs s
+  unfolding walk stopOf
+  mark-ended z h q =
+      let k : length (drop (r .at) s) ≤ 0 = omega (arith, length-drop (r .at) s) in
+      record { answered = rw (x .through z .cut, le-ltb 0 (length (drop (r .at) s)) k) q; marks = x .marks }
+
+pub reached-inside : (r : Reached) (n p : ℕ) (s : List ℕ) → r ≡ record { number = n; at = p } → p ≤ length s → r .at ≤ length s
+reached-inside r n p s q h = rw q h

@@ -3,11 +3,10 @@ use Prim.Native.Nat.{ℕ, _/_, _%_}
 use mathlib.Core.Path.{_≡_}
 use mathlib.Core.Bool.{false}
 use mathlib.Core.List.{List}
-use lib.ListN.{getElem?}
 use Rattle.fdoca.specs.declared.State.{State}
-use Rattle.fdoca.specs.Basics.{Result, refuse, ok, _>>=_, the}
+use Rattle.fdoca.specs.Basics.{Result, refuse, ok}
 use Rattle.fdoca.specs.Item.{Field}
-use Rattle.fdoca.specs.Walk.{Note, walk}
+use Rattle.fdoca.specs.Walk.{Note}
 use Rattle.fdoca.specs.Between.{Stands}
 use Rattle.fields.specs.Plan.{entryOf, Proper, Planned}
 use Rattle.walks.specs.declared.Found.{Found}
@@ -21,10 +20,6 @@ foundOf (ok n) = record { number = 0; place = 0; start = n .start; null = n .isN
 -- The state call's answer, by what was found.
 abbrev pub stateFound : Found → State
 stateFound r = record { number = r .number; place = r .place; null = r .null; code = r .entry / 16777216 % 256; length = r .value }
-
--- Item k of the fields in the data: refusals of the walk come first, then 17.
-unfoldable pub itemOf : List Field → List ℕ → (k : ℕ) → Result Note
-itemOf fs s k = walk fs s >>= λ ns. the (getElem? ns k) 17 0
 
 -- The numbers es are a plan.
 pub record IsPlan (es : List ℕ) : Type 0 where

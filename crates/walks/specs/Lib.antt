@@ -1,3 +1,4 @@
 pub mod Entry
 pub mod Marks
 pub mod Finding
+pub mod Passes

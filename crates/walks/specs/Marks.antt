@@ -1,13 +1,15 @@
 -- The walk's answer, the plan that it leaves, and the item list by that plan. A marked entry has its item's position in the highest 16 bits.
 use Prim.Native.Nat.{ℕ, _+_, _*_, _/_, _%_}
 use mathlib.Core.Path.{_≡_}
+use mathlib.Core.Logic.{_≢_}
 use mathlib.Core.List.{List, [], _∷_, _++_, map}
 use lib.ListN.{length, drop}
 use Rattle.fdoca.specs.Basics.{Result, refuse, ok}
 use Rattle.fdoca.specs.Item.{Field, measure}
-use Rattle.fdoca.specs.Walk.{Note, itemLength, noteOf, walk}
+use Rattle.fdoca.specs.Walk.{Note, itemLength, noteOf, cutFrom, walk}
 use Rattle.fields.specs.Plan.{entryOf, Proper}
 use Rattle.walks.specs.declared.Stop.{Stop}
+use Rattle.walks.specs.declared.Reached.{Reached}
 
 unfoldable pub stopOf : Result (List Note) → Stop
 stopOf (refuse n p) = record { number = n; place = p }
@@ -26,6 +28,18 @@ unfoldable pub marksFrom : (p : ℕ) → List Field → List ℕ → List ℕ
 marksFrom p [] s = []
 marksFrom p (f ∷ fs) s =
     markOr (noteOf f p (measure f s)) (λ n. marksFrom (p + itemLength n) fs (drop (itemLength n) s)) (map entryOf (f ∷ fs))
+
+-- The answer r of a walk over the fields fs from the place o of the data s on, and the part of a plan that it leaves: an item's refusal, or the place
+-- behind the items.
+pub record Through (o at : ℕ) (part : List ℕ) (fs : List Field) (s : List ℕ) : Type 0 where
+  pub notes : List Note
+  pub cut : cutFrom o fs (drop o s) ≡ ok (record { notes = notes; end = at; rest = drop at s })
+  pub marked : part ≡ map markOf notes
+
+pub record MarkedPart (r : Reached) (o : ℕ) (part : List ℕ) (fs : List Field) (s : List ℕ) : Type 0 where
+  pub marks : part ≡ marksFrom o fs (drop o s)
+  pub stops : r .number ≢ 0 → cutFrom o fs (drop o s) ≡ refuse (r .number) (r .at)
+  pub through : r .number ≡ 0 → Through o (r .at) part fs s
 
 -- The answer of a walk over the fields fs and the data s, and the plan that it leaves.
 pub record Marked (r : Stop) (plan : List ℕ) (fs : List Field) (s : List ℕ) : Type 0 where

@@ -1,20 +1,29 @@
 // The walk over a plan and the data (document 01, "Unfolding and walk").
 ghost use mathlib.Core.Path.{_≡_};
-ghost use Prim.Native.Nat.{_+_, _*_, _/_, _≤_};
+ghost use Prim.Native.Nat.{_+_, _*_, _/_, _≤_, _<_};
 ghost use mathlib.Core.List.{List};
 ghost use lib.ListN.{length, drop};
+ghost use lib.Seq.{paste};
 ghost use Rattle.fdoca.specs.Basics.{refuse};
 ghost use Rattle.fdoca.specs.Item.{Field};
 ghost use Rattle.terminated.specs.Answer.{answer};
 ghost use Rattle.fields.specs.Plan.{Planned};
 ghost use Rattle.walks.specs.Entry.{measureEntry, isPlain, Stepped};
-ghost use Rattle.walks.specs.Marks.{marksFrom, Marked, listBy};
-ghost use Rattle.walks.specs.Finding.{foundOf, itemOf, IsPlan, IsMark, FoundBy};
+ghost use Rattle.walks.specs.Marks.{MarkedPart, Marked, listBy};
+ghost use Rattle.walks.specs.Finding.{IsPlan, IsMark, FoundBy};
+ghost use Rattle.walks.specs.Passes.{unmarked, Apart, PassPlan, IsPassPlan, MarkedPasses, RowPlan, IsRowPlan, MarkedRows};
 
 // Where the walk stops: number and place of a refusal, zeros if the block is good.
 pub struct Stop {
     pub number: u32,
     pub place: u32,
+}
+
+// Where the walk over rows to the end stops: number and place of a refusal and count 0, or zeros and how many items it took.
+pub struct Passed {
+    pub number: u32,
+    pub place: u32,
+    pub count: usize,
 }
 
 // One item of a good block, or the refusal's number and place.
@@ -95,27 +104,123 @@ fn step_at(entry: u64, data: &[u8], at: usize) -> usize
     m.prefix + m.value + m.padding
 }
 
-// The walk over the whole plan and the data. The entry of an item gets its position in the highest 16 bits, up to the item that stops the walk.
+// Where the walk over a part of a plan has come to: the place behind its last item, or an item's refusal and the item's place.
+pub struct Reached {
+    pub number: u32,
+    pub at: usize,
+}
+
+fn came_to(number: u32, at: usize) -> Reached
+    ensures { λ r. ⌜ r ≡ record { number = number; at = at } ⌝ }
+{
+    Reached {
+        number: number,
+        at: at,
+    }
+}
+
+// The walk over a part of a plan, from a place of the data on. The entry of an item gets its position in the highest 16 bits, up to the item that
+// stops the walk.
+fn mark_part(part: &mut [u64], data: &[u8], from: usize) -> Reached
+    requires { ⌜ IsPlan (now part) × (from ≤ length (now «data»)) × (length (now «data») ≤ 32768) ⌝ }
+    ensures { λ r. ⌜ ((fs : List Field) → Planned (now (part .entry)) fs → MarkedPart r from (now (part .exit)) fs (now («data» .entry))) ⌝ }
+    ensures { λ r. ⌜ r .at ≤ length (now («data» .entry)) ⌝ }
+{
+    let mut at = from;
+    let mut k = 0;
+    while k < part.len() {
+        let entry = part[k];
+        let step = step_at(entry, data, at);
+        if REFUSED <= step {
+            return came_to((step - REFUSED) as u32, at);
+        }
+        part[k] = entry % POSITION + at as u64 * POSITION;
+        at += step;
+        k += 1;
+    }
+    came_to(0, at)
+}
+
+// The walk over the whole plan and the data.
 pub fn mark(plan: &mut [u64], data: &[u8]) -> Stop
     requires { ⌜ IsPlan (now plan) × (length (now «data») ≤ 32768) ⌝ }
     ensures { λ r. ⌜ ((fs : List Field) → Planned (now (plan .entry)) fs → Marked r (now (plan .exit)) fs (now («data» .entry))) ⌝ }
 {
-    let mut at = 0;
-    let mut k = 0;
-    while k < plan.len() {
-        let entry = plan[k];
-        let step = step_at(entry, data, at);
-        if REFUSED <= step {
-            return stopped((step - REFUSED) as u32, at);
-        }
-        plan[k] = entry % POSITION + at as u64 * POSITION;
-        at += step;
-        k += 1;
+    let r = mark_part(plan, data, 0);
+    if r.number != 0 {
+        return stopped(r.number, r.at);
     }
-    if at < data.len() {
-        return stopped(16, at);
+    if r.at < data.len() {
+        return stopped(16, r.at);
     }
     stopped(0, 0)
+}
+
+// The answer of a walk over rows to the end, with a place in the data.
+fn ended(number: u32, at: usize, count: usize) -> Passed
+    requires { ⌜ at ≤ 32768 ⌝ }
+    ensures { λ r. ⌜ r ≡ record { number = number; place = at; count = count } ⌝ }
+{
+    Passed {
+        number: number,
+        place: at as u32,
+        count: count,
+    }
+}
+
+// Copies the first m entries of a pass, which stand from `before` on, to the places from k on, without their marks.
+fn copy_pass(plan: &mut [u64], before: usize, k: usize, m: usize)
+    requires { ⌜ Apart before m k × (k + m ≤ length (now plan)) ⌝ }
+    ensures { λ _. ⌜ now (plan .exit) ≡ paste (now (plan .entry)) k (unmarked (drop before (now (plan .entry)))) m ⌝ }
+{
+    let mut i = 0;
+    while i < m {
+        plan[k + i] = plan[before + i] % POSITION;
+        i += 1;
+    }
+}
+
+// The walk over rows to the end, from a place of the data on, behind the items of the first `before` entries of the plan. The entries of a pass are
+// the next `once`; each pass is marked in its items' own places. The plan's length is the room: the most items that can be.
+fn mark_passes(plan: &mut [u64], before: usize, once: usize, data: &[u8], from: usize) -> Passed
+    requires { ⌜ IsPassPlan (now plan) before once × (length (now plan) ≤ 4096) × (once < 4294967296) × (from ≤ length (now «data»))
+        × (length (now «data») ≤ 32768) ⌝ }
+    ensures { λ r. ⌜ ((rows : List Field) → PassPlan (now (plan .entry)) before once rows
+        → MarkedPasses r (now (plan .entry)) (now (plan .exit)) before from rows (now («data» .entry))) ⌝ }
+{
+    let mut at = from;
+    let mut k = before;
+    loop {
+        if at == data.len() {
+            return ended(0, 0, k);
+        }
+        let m = numbers::least(once, plan.len() - k);
+        copy_pass(plan, before, k, m);
+        let end = k + m;
+        let r = mark_part(&mut plan[k..end], data, at);
+        if r.number != 0 {
+            return ended(r.number, r.at, 0);
+        }
+        if m < once {
+            return ended(10, r.at, 0);
+        }
+        at = r.at;
+        k = end;
+    }
+}
+
+// The walk over rows to the end (document 02, Q-5): the fields of the first `before` entries of the plan, and then those of the next `once` over and
+// over.
+pub fn mark_rows(plan: &mut [u64], before: usize, once: usize, data: &[u8]) -> Passed
+    requires { ⌜ IsRowPlan (now plan) before once × (length (now plan) ≤ 4096) × (once < 4294967296) × (length (now «data») ≤ 32768) ⌝ }
+    ensures { λ r. ⌜ ((bs rows : List Field) → RowPlan (now (plan .entry)) before once bs rows
+        → MarkedRows r (now (plan .entry)) (now (plan .exit)) bs rows (now («data» .entry))) ⌝ }
+{
+    let first = mark_part(&mut plan[..before], data, 0);
+    if first.number != 0 {
+        return ended(first.number, first.at, 0);
+    }
+    mark_passes(plan, before, once, data, first.at)
 }
 
 // The position in a marked entry.
@@ -142,23 +247,8 @@ pub fn write_list(plan: &[u64], size: usize, list: &mut [u32])
     }
 }
 
-// No item: a refusal's number and place.
-fn refused(number: u32, place: u32) -> Found
-    ensures { λ r. ⌜ r ≡ foundOf (refuse number place) ⌝ }
-{
-    Found {
-        number: number,
-        place: place,
-        start: 0,
-        null: false,
-        prefix: 0,
-        value: 0,
-        entry: 0,
-    }
-}
-
 // The item of a marked entry in a good block.
-fn item_of(marked: u64, data: &[u8]) -> Found
+pub fn item_of(marked: u64, data: &[u8]) -> Found
     requires { ⌜ IsMark (now «data») marked ⌝ }
     ensures { λ r. ⌜ FoundBy (now («data» .entry)) marked r ⌝ }
 {
@@ -176,21 +266,4 @@ fn item_of(marked: u64, data: &[u8]) -> Found
         value: parts.value,
         entry: marked % POSITION,
     }
-}
-
-// The item of one number, once the walk over the whole plan and the data has found the block good. The plan is left as `mark` leaves it.
-pub fn find(plan: &mut [u64], data: &[u8], item: u32) -> Found
-    requires { ⌜ IsPlan (now plan) × (length (now «data») ≤ 32768) ⌝ }
-    ensures { λ r. ⌜ ((fs : List Field) → Planned (now (plan .entry)) fs → r ≡ foundOf (itemOf fs (now («data» .entry)) item)) ⌝ }
-    ensures { λ _. ⌜ ((fs : List Field) → Planned (now (plan .entry)) fs → now (plan .exit) ≡ marksFrom 0 fs (now («data» .entry))) ⌝ }
-{
-    let stop = mark(plan, data);
-    if stop.number != 0 {
-        return refused(stop.number, stop.place);
-    }
-    let k = item as usize;
-    if plan.len() <= k {
-        return refused(17, 0);
-    }
-    item_of(plan[k], data)
 }

@@ -1,7 +1,7 @@
 -- `listing::write_block` meets its contract.
 -- Assumes nothing.
 use borrow.Author.Needs.{needs}
-use Rattle.listing.proofs.Blocks.{few-items, part-long, part-ready, check-text, walk-text}
+use Rattle.listing.proofs.Blocks.{is-ready, few-items, part-long, part-fits, check-text, walk-text}
 use Rattle.listing.proofs.write_block.Statement.{statement}
 use Rattle.listing.proofs.write_block.Tie as tie
 
@@ -17,17 +17,17 @@ same-length c = search needs
 returns : tie.Need-returns
 returns c = search check-text
 
-cast-n : tie.Need-cast-n
-cast-n c = search needs
+entries-requires : tie.Need-entries-requires
+entries-requires c κs = search (few-items)
 
 array-borrow-prefix-plan : tie.Need-array-borrow-prefix-plan
-array-borrow-prefix-plan c = search few-items
+array-borrow-prefix-plan c = search needs
 
 slice-aggregate-write-by : tie.Need-slice-aggregate-write-by
-slice-aggregate-write-by c = search part-long
+slice-aggregate-write-by c = search (part-long)
 
 write-by-requires : tie.Need-write-by-requires
-write-by-requires c κs = search (needs, part-ready)
+write-by-requires c κs = search (needs, is-ready, part-fits)
 
 same-length-2 : tie.Need-same-length-2
 same-length-2 c = search needs
@@ -43,7 +43,7 @@ write-block-spec =
     put-refusal-requires
     same-length
     returns
-    cast-n
+    entries-requires
     array-borrow-prefix-plan
     slice-aggregate-write-by
     write-by-requires

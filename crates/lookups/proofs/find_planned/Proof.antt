@@ -1,10 +1,10 @@
-use Rattle.lookups.proofs.Parts.{part-length, part-ready}
+use Rattle.lookups.proofs.Parts.{part-length, part-fits}
 use borrow.Author.Needs.{needs}
 use Rattle.lookups.proofs.find_planned.Statement.{statement}
 use Rattle.lookups.proofs.find_planned.Tie as tie
 
-cast-n : tie.Need-cast-n
-cast-n c = search needs
+entries-requires : tie.Need-entries-requires
+entries-requires c κs = search needs
 
 array-borrow-prefix-few : tie.Need-array-borrow-prefix-few
 array-borrow-prefix-few c = search needs
@@ -13,7 +13,7 @@ slice-aggregate-find-by : tie.Need-slice-aggregate-find-by
 slice-aggregate-find-by c = search (part-length)
 
 find-by-requires : tie.Need-find-by-requires
-find-by-requires c κs = search (needs, part-ready)
+find-by-requires c κs = search (needs, part-fits)
 
 returns : tie.Need-returns
 returns c = search needs
@@ -25,7 +25,7 @@ slice-aggregate-find-by-2 : tie.Need-slice-aggregate-find-by-2
 slice-aggregate-find-by-2 c = search (part-length)
 
 find-by-requires-2 : tie.Need-find-by-requires-2
-find-by-requires-2 c κs = search (needs, part-ready)
+find-by-requires-2 c κs = search (needs, part-fits)
 
 returns-2 : tie.Need-returns-2
 returns-2 c = search needs
@@ -34,7 +34,7 @@ pub find-planned-spec : {M : Type 1} → statement M
 find-planned-spec =
     tie.close
     (tie.spec
-    cast-n
+    entries-requires
     array-borrow-prefix-few
     slice-aggregate-find-by
     find-by-requires

@@ -8,7 +8,7 @@ use borrow.Author.Needs.{needs}
 use lib.ListN.{length, getD}
 use Rattle.plans.specs.Writing.{groupAt}
 use Rattle.plans.proofs.Rows.{Going, start, within, refers, down, off, room, more, over, finish-place, finish-written}
-use Rattle.plans.proofs.Referred.{column-found, column-room, array-place, array-written, row-repeats, sda-room, sda-fits, sda-place, sda-written, row-made, row-room, copies-room, row-place, row-written}
+use Rattle.plans.proofs.Referred.{column-found, column-room, array-place, array-written, none-place, none-written, sda-room, sda-fits, sda-place, sda-written, row-made, row-room, copies-room, row-place, row-written}
 use borrow.Fn.Kinds.{In}
 use borrow.Fn.PlainCycle.{Measures, is, falls, and}
 use Rattle.plans.proofs.expand.Reads as expand
@@ -130,6 +130,9 @@ group-shared-slice-read-factor t c = search needs
 group-cast-factor : (t : ℕ) → group-lts.Need-cast-factor (group-given t) (group-at t) group.Post
 group-cast-factor t c = omega (arith, c .shared-slice-known4 .given (c .before .before .before .before .before .before .args .g + 2))
 
+group-returns-2 : (t : ℕ) → group-lts.Need-returns-2 (group-given t) (group-at t) group.Post
+group-returns-2 t c = search (none-place, none-written)
+
 group-mul-entry : (t : ℕ) → group-lts.Need-mul-entry (group-given t) (group-at t) group.Post
 unfolding groupAt
 group-mul-entry t c = omega arith
@@ -154,7 +157,7 @@ group-expand-requires : (t : ℕ) → group-lts.Need-expand-requires (group-give
 group-expand-requires t c κs = search (off, row-made, row-room)
 
 group-sub-copies : (t : ℕ) → group-lts.Need-sub-copies (group-given t) (group-at t) group.Post
-group-sub-copies t c = search row-repeats
+group-sub-copies t c = search needs
 
 group-copies-requires : (t : ℕ) → group-lts.Need-copies-requires (group-given t) (group-at t) group.Post
 group-copies-requires t c κs = (omega arith, search copies-room)
@@ -162,8 +165,8 @@ group-copies-requires t c κs = (omega arith, search copies-room)
 group-same-length-2 : (t : ℕ) → group-lts.Need-same-length-2 (group-given t) (group-at t) group.Post
 group-same-length-2 t c = search needs
 
-group-returns-2 : (t : ℕ) → group-lts.Need-returns-2 (group-given t) (group-at t) group.Post
-group-returns-2 t c = search (row-place, row-written)
+group-returns-3 : (t : ℕ) → group-lts.Need-returns-3 (group-given t) (group-at t) group.Post
+group-returns-3 t c = search (row-place, row-written)
 
 group-mul-taken-count : (t : ℕ) → group-lts.Need-mul-taken-count (group-given t) (group-at t) group.Post
 unfolding groupAt
@@ -185,8 +188,8 @@ group-fill-requires t c κs = search sda-room
 group-same-length-3 : (t : ℕ) → group-lts.Need-same-length-3 (group-given t) (group-at t) group.Post
 group-same-length-3 t c = search needs
 
-group-returns-3 : (t : ℕ) → group-lts.Need-returns-3 (group-given t) (group-at t) group.Post
-group-returns-3 t c = search (sda-place, sda-written)
+group-returns-4 : (t : ℕ) → group-lts.Need-returns-4 (group-given t) (group-at t) group.Post
+group-returns-4 t c = search (sda-place, sda-written)
 
 pub +expand+group-spec : {M : Type 1} → statement M
 +expand+group-spec = close μ-expand μ-group (λ t. expand-lts.spec
@@ -223,6 +226,7 @@ pub +expand+group-spec : {M : Type 1} → statement M
     (group-add-factor t)
     (group-shared-slice-read-factor t)
     (group-cast-factor t)
+    (group-returns-2 t)
     (group-mul-entry t)
     (group-element-copy-out-entry t)
     (group-mul-expand t)
@@ -232,11 +236,11 @@ pub +expand+group-spec : {M : Type 1} → statement M
     (group-sub-copies t)
     (group-copies-requires t)
     (group-same-length-2 t)
-    (group-returns-2 t)
+    (group-returns-3 t)
     (group-mul-taken-count t)
     (group-element-copy-out-taken-count t)
     (group-taken-count-requires t)
     (group-mul-n t)
     (group-fill-requires t)
     (group-same-length-3 t)
-    (group-returns-3 t)
+    (group-returns-4 t)

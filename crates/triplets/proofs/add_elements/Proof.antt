@@ -1,12 +1,12 @@
-use Rattle.triplets.proofs.Sums.{group-never, group-all, group-none, group-some, all-fits, some-fits}
+use Rattle.triplets.proofs.Sums.{some-times, group-rows, group-all, group-none, group-some, all-fits, some-fits}
 use borrow.Author.Needs.{needs}
 use Rattle.triplets.proofs.add_elements.Statement.{statement}
 use Rattle.triplets.proofs.add_elements.Tie as tie
 
-ruleset ways = (group-never, group-all, group-none, group-some)
+ruleset ways = (some-times, group-rows, group-all, group-none, group-some)
 
-refusal-requires : tie.Need-refusal-requires
-refusal-requires c κs = search needs
+add-rows-requires : tie.Need-add-rows-requires
+add-rows-requires c κs = search needs
 
 returns : tie.Need-returns
 returns c = search ways
@@ -35,8 +35,8 @@ wide-requires-2 c κs = search needs
 mul-part : tie.Need-mul-part
 mul-part c = search (all-fits)
 
-refusal-requires-2 : tie.Need-refusal-requires-2
-refusal-requires-2 c κs = search needs
+refusal-requires : tie.Need-refusal-requires
+refusal-requires c κs = search needs
 
 returns-3 : tie.Need-returns-3
 returns-3 c = search ways
@@ -54,7 +54,7 @@ pub add-elements-spec : {M : Type 1} → statement M
 add-elements-spec =
     tie.close
     (tie.spec
-    refusal-requires
+    add-rows-requires
     returns
     wide-requires
     low-requires
@@ -64,7 +64,7 @@ add-elements-spec =
     high-requires
     wide-requires-2
     mul-part
-    refusal-requires-2
+    refusal-requires
     returns-3
     mul-total-2
     total-requires-2

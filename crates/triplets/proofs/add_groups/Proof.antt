@@ -6,10 +6,13 @@ use Rattle.triplets.proofs.add_groups.Statement.{statement}
 use Rattle.triplets.proofs.add_groups.Tie as tie
 
 abbrev Inv-loop : tie.InvT-loop
-Inv-loop t head starts sizes entries sum n₀ g₀ n g = Adding head t starts sizes entries sum n g
+Inv-loop t head last starts sizes entries sum end n₀ g₀ n g = Adding head last t starts sizes entries sum end n g
 
 abbrev μ-loop : tie.MeasureT-loop
-μ-loop t head starts sizes entries sum n₀ g₀ n g = length t - g
+μ-loop t head last starts sizes entries sum end n₀ g₀ n g = length t - g
+
+ending-requires : tie.Need-ending-requires Inv-loop μ-loop
+ending-requires c κs = search needs
 
 loop-holds : tie.Need-loop-holds Inv-loop μ-loop
 loop-holds c = search (adding-start)
@@ -50,6 +53,9 @@ add-add-group-2 c = search needs
 shared-slice-read-add-group-2 : tie.Need-shared-slice-read-add-group-2 Inv-loop μ-loop
 shared-slice-read-add-group-2 c = search (group-third)
 
+sub-add-group : tie.Need-sub-add-group Inv-loop μ-loop
+sub-add-group c = search needs
+
 add-group-requires : tie.Need-add-group-requires Inv-loop μ-loop
 add-group-requires c κs = search needs
 
@@ -63,7 +69,11 @@ loop-less : tie.Need-loop-less Inv-loop μ-loop
 loop-less c = search needs
 
 loop-again : tie.Need-loop-again Inv-loop μ-loop
-loop-again c = search (adding-more)
+loop-again c =
+    let a = c .before .before in
+    let w = a .before .before .before .before .before .before in
+    let l = w .before .before in
+    adding-more _ _ _ _ _ _ _ _ _ _ (l .before .loop .inv) _ _ (l .loop-test .taken) (w .wide .ensures .0) (w .wide .ensures .1) (a .add-group .ensures) (c .if1 .left)
 
 returns-2 : tie.Need-returns-2 Inv-loop μ-loop
 returns-2 c = search (adding-end)
@@ -74,6 +84,7 @@ add-groups-spec =
     (tie.spec
     Inv-loop
     μ-loop
+    ending-requires
     loop-holds
     shared-slice-read-wide
     wide-requires
@@ -87,6 +98,7 @@ add-groups-spec =
     shared-slice-read-add-group
     add-add-group-2
     shared-slice-read-add-group-2
+    sub-add-group
     add-group-requires
     returns
     add-g

@@ -1,0 +1,4 @@
+pub mod Stores
+pub mod Passing
+pub mod Layouts
+pub mod Callers
