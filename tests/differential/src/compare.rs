@@ -4,7 +4,7 @@ use std::fmt::Debug;
 
 use differential::answers::{self, Part};
 use reader::generate::Random;
-use reader::Counts;
+use reader::{unfold, walk, Counts};
 
 /// How many mismatches are printed.
 const PRINTED: u64 = 10;
@@ -37,7 +37,7 @@ impl Comparison {
         self.agree(block, "check", checked, expected.into());
         self.met(checked.number);
 
-        let count = expected.unwrap_or(0);
+        let count = count(block);
         self.compare_list(block, 2 + 2 * count as usize);
         let any = self.random.below(count.max(1) as usize) as u32;
         let last = count.saturating_sub(1);
@@ -119,6 +119,15 @@ impl Comparison {
 struct Block<'b> {
     descriptor: &'b [u8],
     data: &'b [u8],
+}
+
+/// How many items a block has; of a refused one, as many as its descriptor alone gives.
+fn count(block: Block) -> u32 {
+    let count = unfold(block.descriptor).map(|unfolding| match walk(&unfolding, block.data) {
+        Ok(notes) => notes.len(),
+        Err(_) => unfolding.fields.len(),
+    });
+    count.unwrap_or(0) as u32
 }
 
 /// Where a part lies in the data, also an empty one.

@@ -7,8 +7,10 @@ mod forms;
 mod layouts;
 mod limits;
 mod packed;
+mod rows;
 
 use reader::generate::{Case, Generator};
+use reader::NO_SUCH_ITEM;
 
 use crate::compare::Comparison;
 
@@ -17,7 +19,7 @@ pub struct Group {
     pub run: fn(&mut Comparison),
 }
 
-pub const GROUPS: [Group; 19] = [
+pub const GROUPS: [Group; 24] = [
     Group {
         name: "valid blocks of every form",
         run: forms::every_form,
@@ -91,6 +93,26 @@ pub const GROUPS: [Group; 19] = [
         run: layouts::long_layouts,
     },
     Group {
+        name: "rows to the end of every type code",
+        run: rows::every_code,
+    },
+    Group {
+        name: "rows to the end, cut at every byte, continued and changed",
+        run: rows::varied_data,
+    },
+    Group {
+        name: "every short run of triplets around rows to the end",
+        run: rows::every_run,
+    },
+    Group {
+        name: "rows to the end around 4,096 items",
+        run: rows::counts,
+    },
+    Group {
+        name: "valid and damaged rows to the end",
+        run: rows::generated,
+    },
+    Group {
         name: "random bytes",
         run: random_bytes,
     },
@@ -142,7 +164,9 @@ pub fn more(comparison: &mut Comparison, mut goes_on: impl FnMut(&Comparison) ->
     }
 }
 
-/// Every block has an item 0.
+/// A good block has an item 0, or no items.
 fn is_accepted(case: &Case) -> bool {
-    reader::state(&case.descriptor, &case.data, 0).is_ok()
+    let first = reader::state(&case.descriptor, &case.data, 0);
+    let number = first.map_err(|refusal| refusal.number);
+    matches!(number, Ok(_) | Err(NO_SUCH_ITEM))
 }

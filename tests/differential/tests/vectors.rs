@@ -18,5 +18,7 @@ mod groups;
 mod limits;
 #[path = "../../reader/tests/vectors/packed.rs"]
 mod packed;
+#[path = "../../reader/tests/vectors/rows.rs"]
+mod rows;
 #[path = "../../reader/tests/vectors/support.rs"]
 mod support;

@@ -1,4 +1,4 @@
-//! The check of a descriptor, which unfolds it into a list of fields.
+//! The check of a descriptor, which unfolds it into its fields.
 
 use std::collections::BTreeMap;
 use std::slice;
@@ -15,20 +15,66 @@ pub(crate) const GDA: u8 = 0x75;
 pub(crate) const ISD: u8 = 0x7E;
 pub(crate) const CPT: u8 = 0x7F;
 
-/// Unfolds a descriptor: one field for each item, in the items' order.
-pub fn unfold(descriptor: &[u8]) -> Result<Vec<Field>, Refusal> {
+/// The fields of a descriptor's items, in the items' order.
+#[derive(Clone, Debug, PartialEq, Eq)]
+pub struct Unfolding {
+    /// One field for each item; of rows to the end, those before the rows.
+    pub fields: Vec<Field>,
+    pub rows: Option<Rows>,
+}
+
+impl Unfolding {
+    /// All fields, without an end if there are rows to the end.
+    pub fn iter(&self) -> impl Iterator<Item = &Field> {
+        let repeated = self.rows.iter().flat_map(|rows| rows.fields.iter().cycle());
+        self.fields.iter().chain(repeated)
+    }
+
+    /// How many items a block has; of rows to the end, with so many passes.
+    pub fn count(&self, passes: usize) -> usize {
+        self.fields.len() + passes * self.rows.as_ref().map_or(0, Rows::pass_length)
+    }
+
+    /// The first fields, so many of them.
+    pub fn first(&self, count: usize) -> Vec<Field> {
+        self.iter().take(count).copied().collect()
+    }
+}
+
+/// What rows to the end repeat: some fields, and how often one pass has them.
+#[derive(Clone, Debug, PartialEq, Eq)]
+pub struct Rows {
+    fields: Vec<Field>,
+    times: usize,
+}
+
+impl Rows {
+    /// How many fields one pass has.
+    pub fn pass_length(&self) -> usize {
+        self.fields.len() * self.times
+    }
+
+    /// The fields of one pass.
+    pub fn pass(&self) -> impl Iterator<Item = &Field> {
+        self.fields.iter().cycle().take(self.pass_length())
+    }
+}
+
+/// Unfolds a descriptor.
+pub fn unfold(descriptor: &[u8]) -> Result<Unfolding, Refusal> {
     if descriptor.len() > MAX_DESCRIPTOR {
         return Err(Refusal::at(OVERSIZE, 0));
     }
-    let mut unfolding = Unfolding::default();
-    let mut place = 0;
-    while place < descriptor.len() {
-        let length = first_triplet(&descriptor[place..])
-            .and_then(|triplet| unfolding.read(triplet, place == 0))
+    let mut reading = Reading::default();
+    let mut rest = descriptor;
+    while !rest.is_empty() {
+        let place = descriptor.len() - rest.len();
+        let length = first_triplet(rest)
+            .and_then(|triplet| reading.read(triplet, place == 0, triplet.len() == rest.len()))
             .map_err(|number| Refusal::at(number, place))?;
-        place += length;
+        rest = &rest[length..];
     }
-    unfolding
+    reading
         .finish()
         .ok_or(Refusal::at(NOTHING_DESCRIBED, descriptor.len()))
 }
@@ -83,6 +129,7 @@ struct Open {
     construct: u8,
     id: u8,
     fields: Vec<Field>,
+    rows: Option<Rows>,
 }
 
 impl Open {
@@ -95,6 +142,17 @@ impl Open {
         }
         Ok(())
     }
+
+    fn repeat_to_the_end(&mut self, fields: &[Field], times: usize) -> Result<(), u32> {
+        if fields.iter().all(Field::has_no_bytes) {
+            return Err(ENDLESS);
+        }
+        self.rows = Some(Rows {
+            fields: fields.to_vec(),
+            times,
+        });
+        Ok(())
+    }
 }
 
 fn product(extents: &[u16]) -> u64 {
@@ -103,19 +161,19 @@ fn product(extents: &[u16]) -> u64 {
 
 /// The descriptor read so far.
 #[derive(Default)]
-struct Unfolding {
+struct Reading {
     described: BTreeMap<u8, Lower>,
     open: Option<Open>,
     last: Option<u8>,
 }
 
-impl Unfolding {
+impl Reading {
     /// Reads one triplet and gives its length, or the number to refuse it with.
-    fn read(&mut self, triplet: &[u8], is_first: bool) -> Result<usize, u32> {
+    fn read(&mut self, triplet: &[u8], is_first: bool, is_last: bool) -> Result<usize, u32> {
         match triplet[1] {
             SDA => self.sda(triplet)?,
-            RLO | GDA => self.row(triplet)?,
-            CPT => self.cpt(triplet)?,
+            RLO | GDA => self.row(triplet, is_last)?,
+            CPT => self.cpt(triplet, is_last)?,
             ISD if is_first => isd(triplet)?,
             ISD => return Err(OUT_OF_SEQUENCE),
             _ => return Err(UNKNOWN_CONSTRUCT),
@@ -149,7 +207,7 @@ impl Unfolding {
         Ok(())
     }
 
-    fn row(&mut self, triplet: &[u8]) -> Result<(), u32> {
+    fn row(&mut self, triplet: &[u8], is_last: bool) -> Result<(), u32> {
         self.close();
         if !holds_groups(triplet) {
             return Err(BAD_LENGTH);
@@ -165,12 +223,13 @@ impl Unfolding {
             construct: triplet[1],
             id,
             fields: Vec::new(),
+            rows: None,
         };
-        self.open = Some(self.add_groups(open, &triplet[3..])?);
+        self.open = Some(self.add_groups(open, &triplet[3..], is_last)?);
         Ok(())
     }
 
-    fn cpt(&mut self, triplet: &[u8]) -> Result<(), u32> {
+    fn cpt(&mut self, triplet: &[u8], is_last: bool) -> Result<(), u32> {
         let open = self.open.take().ok_or(OUT_OF_SEQUENCE)?;
         if !holds_groups(triplet) {
             return Err(BAD_LENGTH);
@@ -178,14 +237,15 @@ impl Unfolding {
         if triplet[2] != 0 {
             return Err(BAD_PARAMETER);
         }
-        self.open = Some(self.add_groups(open, &triplet[3..])?);
+        self.open = Some(self.add_groups(open, &triplet[3..], is_last)?);
         Ok(())
     }
 
     /// Adds the groups of one triplet: of an RLO id, elements taken and factor, of a GDA id
-    /// and two bytes of size.
-    fn add_groups(&self, mut open: Open, groups: &[u8]) -> Result<Open, u32> {
-        for group in groups.chunks_exact(3) {
+    /// and two bytes of size. An RLO's group that ends the descriptor may have factor 0.
+    fn add_groups(&self, mut open: Open, groups: &[u8], is_last: bool) -> Result<Open, u32> {
+        let mut groups = groups.chunks_exact(3);
+        while let Some(group) = groups.next() {
             let lower = self.described.get(&group[0]).ok_or(MISSING_REFERENCE)?;
             if open.construct == GDA {
                 let field = lower.column([group[1], group[2]]).ok_or(COLUMN_MISFIT)?;
@@ -193,11 +253,15 @@ impl Unfolding {
                 continue;
             }
             let (elements_taken, factor) = (group[1], group[2]);
-            if factor == 0 {
+            let ends_descriptor = is_last && groups.len() == 0;
+            if factor == 0 && !ends_descriptor {
                 return Err(NOT_CARRIED);
             }
             let (fields, times) = lower.list(elements_taken)?;
-            open.add(fields, times * usize::from(factor))?;
+            match factor {
+                0 => open.repeat_to_the_end(fields, times)?,
+                _ => open.add(fields, times * usize::from(factor))?,
+            }
         }
         Ok(open)
     }
@@ -215,12 +279,14 @@ impl Unfolding {
     }
 
     /// The list of the last SDA, RLO or GDA.
-    fn finish(mut self) -> Option<Vec<Field>> {
+    fn finish(mut self) -> Option<Unfolding> {
+        let rows = self.open.as_mut().and_then(|open| open.rows.take());
         self.close();
-        match self.described.remove(&self.last?)? {
-            Lower::Row { fields } => Some(fields),
-            Lower::Sda { field, extents } => Some(vec![field; product(&extents) as usize]),
-        }
+        let fields = match self.described.remove(&self.last?)? {
+            Lower::Row { fields } => fields,
+            Lower::Sda { field, extents } => vec![field; product(&extents) as usize],
+        };
+        Some(Unfolding { fields, rows })
     }
 }
 

@@ -87,6 +87,25 @@ mod tests {
     }
 
     #[test]
+    fn rows_to_the_end() {
+        let mut descriptor = [
+            0x0C, 0x70, 0xB1, 0x01, 0, 0, 0, 0, 0, 0, 0, 0, 0x06, 0x71, 0xA1, 0xB1, 0, 0,
+        ];
+        let rows: [(u8, &[u8], &str); 4] = [
+            (2, &[], "items 0 bytes 0\n"),
+            (2, &[7; 4], "items 2 bytes 4\n0 0 1 2\n1 2 1 2\n"),
+            (2, &[7; 5], "refused 13 4\n"),
+            (0, &[], "refused 22 12\n"),
+        ];
+        for (field_length, data, text) in rows {
+            descriptor[11] = field_length;
+            let sizes = [0, 0, 0, 18, 0, 0, 0, data.len() as u8];
+            let file = [&sizes[..], &descriptor, data].concat();
+            assert_eq!(dump(&file), text);
+        }
+    }
+
+    #[test]
     fn files_that_do_not_fit_their_sizes() {
         let rows: [(&[u8], &str); 6] = [
             (&[], "refused 19 0\n"),

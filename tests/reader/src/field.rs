@@ -171,6 +171,11 @@ impl Field {
         }
     }
 
+    /// Whether the field's items have no bytes, whatever the data.
+    pub(crate) fn has_no_bytes(&self) -> bool {
+        self.type_code == 0x01 && self.field_length() == 0
+    }
+
     /// The digits of a packed decimal.
     pub(crate) fn digits(&self) -> usize {
         self.parameters[6].into()

@@ -14,7 +14,7 @@ pub use random::Random;
 use std::env;
 
 use crate::field::Field;
-use crate::unfold;
+use crate::{unfold, walk, Unfolding};
 
 /// The longest descriptor, data block and unfolding of an ordinary case.
 const SMALL_BYTES: usize = 120;
@@ -42,7 +42,7 @@ pub struct Generator {
     random: Random,
 }
 
-/// A valid descriptor with data that fits.
+/// A valid descriptor with data that fits, and the fields of its items.
 struct Block {
     triplets: Vec<Vec<u8>>,
     fields: Vec<Field>,
@@ -59,7 +59,8 @@ impl Iterator for Generator {
             580..=879 => self.damaged(),
             880..=899 => (extremes::nothing(&mut self.random), self.few_bytes()),
             900..=919 => extremes::large_count(&mut self.random),
-            920..=984 => self.hostile(),
+            920..=927 => extremes::large_rows(&mut self.random),
+            928..=984 => self.hostile(),
             _ => {
                 let (descriptor, data) = self.damaged();
                 extremes::at_limits(&mut self.random, descriptor, data)
@@ -78,7 +79,7 @@ impl Generator {
 
     /// Adds a list and an item number.
     fn case(&mut self, descriptor: Vec<u8>, data: Vec<u8>) -> Case {
-        let fields = unfold(&descriptor).unwrap_or_default();
+        let fields = fields_of(&descriptor, &data);
         Case {
             list_before: self.list_before(fields.len()),
             item: self.item(&fields),
@@ -92,7 +93,8 @@ impl Generator {
             let items = self.random.pick(&[1, 2, 3, 5, 8, 12, 16, 30, 58]);
             let triplets = structured::triplets(&mut self.random, items);
             let descriptor = triplets.concat();
-            let fields = unfold(&descriptor).unwrap_or_default();
+            let unfolding = unfold(&descriptor).expect("a valid descriptor");
+            let fields = self.some_fields(&unfolding);
             let data = fitting::data(&mut self.random, &fields);
             let is_small = descriptor.len() < SMALL_BYTES && data.len() < SMALL_BYTES;
             if is_small || self.random.one_in(20) {
@@ -103,6 +105,15 @@ impl Generator {
                 };
             }
         }
+    }
+
+    /// The fields of a descriptor's items; of rows to the end, with some passes or none.
+    fn some_fields(&mut self, unfolding: &Unfolding) -> Vec<Field> {
+        let mut passes = self.random.pick(&[0, 1, 1, 2, 3, 4, 6, 8, SMALL_ITEMS]);
+        while passes > 0 && unfolding.count(passes) > SMALL_ITEMS {
+            passes -= 1;
+        }
+        unfolding.first(unfolding.count(passes))
     }
 
     fn fitting(&mut self) -> (Vec<u8>, Vec<u8>) {
@@ -154,7 +165,7 @@ impl Generator {
 
     /// Data that fits a descriptor, if it is valid and the data is short.
     fn small_fit(&mut self, descriptor: &[u8]) -> Option<Vec<u8>> {
-        let fields = unfold(descriptor).ok()?;
+        let fields = self.some_fields(&unfold(descriptor).ok()?);
         let space: usize = fields.iter().map(|field| field.field_length() + 4).sum();
         (space < 6 * SMALL_BYTES).then(|| fitting::data(&mut self.random, &fields))
     }
@@ -204,21 +215,33 @@ impl Generator {
     }
 }
 
+/// The fields of a block's items; of a refused block, those that its descriptor alone gives.
+fn fields_of(descriptor: &[u8], data: &[u8]) -> Vec<Field> {
+    let Ok(unfolding) = unfold(descriptor) else {
+        return Vec::new();
+    };
+    match walk(&unfolding, data) {
+        Ok(notes) => unfolding.first(notes.len()),
+        Err(_) => unfolding.fields,
+    }
+}
+
 #[cfg(test)]
 mod tests {
     use super::*;
     use crate::refusal::{BAD_COUNT, NO_END};
-    use crate::walk;
 
     #[test]
     fn blocks_fit_unless_spoiled() {
         let mut generator = Generator::new(11);
         for _ in 0..2_000 {
             let block = generator.block();
-            assert_eq!(unfold(&block.triplets.concat()), Ok(block.fields.clone()));
-            assert!(walk(&block.fields, &block.data).is_ok());
+            let unfolding = unfold(&block.triplets.concat()).expect("a valid descriptor");
+            let count = walk(&unfolding, &block.data).map(|notes| notes.len());
+            assert_eq!(count, Ok(block.fields.len()));
+            assert_eq!(unfolding.first(block.fields.len()), block.fields);
             if let Some(data) = fitting::spoiled_data(&mut generator.random, &block.fields) {
-                let number = walk(&block.fields, &data).map_err(|refusal| refusal.number);
+                let number = walk(&unfolding, &data).map_err(|refusal| refusal.number);
                 assert!(matches!(number, Err(BAD_COUNT | NO_END)));
             }
         }

@@ -1,8 +1,8 @@
 //! A reader of FD:OCA descriptors and of the data blocks that they describe.
 //!
-//! A descriptor is unfolded into a list of fields, one for each item. The walk
-//! measures the items of a data block by those fields. Every call answers from
-//! these two steps.
+//! A descriptor is unfolded into fields, one for each item; rows to the end repeat
+//! theirs. The walk measures the items of a data block by those fields. Every call
+//! answers from these two steps.
 
 mod answers;
 mod counts;
@@ -15,7 +15,7 @@ mod walk;
 
 pub use answers::Answers;
 pub use counts::Counts;
-pub use descriptor::{unfold, MAX_DESCRIPTOR, MAX_ITEMS};
+pub use descriptor::{unfold, Rows, Unfolding, MAX_DESCRIPTOR, MAX_ITEMS};
 pub use dump::dump;
 pub use field::Field;
 pub use refusal::*;
@@ -23,20 +23,21 @@ pub use walk::{walk, Note, MAX_DATA};
 
 use field::Form;
 
-/// Checks a descriptor and gives its item count.
+/// Checks a descriptor and gives its item count; of rows to the end, that before the rows.
 pub fn check(descriptor: &[u8]) -> Result<u32, Refusal> {
-    unfold(descriptor).map(|fields| fields.len() as u32)
+    unfold(descriptor).map(|unfolding| unfolding.fields.len() as u32)
 }
 
 /// Lists a block's items: their count n, the block's length, n starts, n SDA ids.
 /// Entries beyond keep their contents; on a refusal all entries do.
 pub fn list(descriptor: &[u8], data: &[u8], list: &mut [u32]) -> Result<(), Refusal> {
-    let fields = unfold_for(descriptor, data)?;
-    let count = fields.len();
-    if list.len() < 2 + 2 * count {
-        return Err(Refusal::at(SMALL_LIST, 0));
+    let unfolding = unfold_for(descriptor, data)?;
+    if unfolding.rows.is_none() {
+        require_room(list, unfolding.fields.len())?;
     }
-    let notes = walk(&fields, data)?;
+    let notes = walk(&unfolding, data)?;
+    let count = notes.len();
+    require_room(list, count)?;
     list[0] = count as u32;
     list[1] = data.len() as u32;
     for (item, note) in notes.iter().enumerate() {
@@ -44,6 +45,13 @@ pub fn list(descriptor: &[u8], data: &[u8], list: &mut [u32]) -> Result<(), Refu
         list[2 + count + item] = note.id.into();
     }
     Ok(())
+}
+
+fn require_room(list: &[u32], count: usize) -> Result<(), Refusal> {
+    match list.len() >= 2 + 2 * count {
+        true => Ok(()),
+        false => Err(Refusal::at(SMALL_LIST, 0)),
+    }
 }
 
 /// An item's state.
@@ -153,16 +161,13 @@ fn decimal(bytes: &[u8], digits: usize) -> Option<i64> {
 
 /// An item's field, and what the walk notes of the item.
 fn find(descriptor: &[u8], data: &[u8], item: u32) -> Result<(Field, Note), Refusal> {
-    let fields = unfold_for(descriptor, data)?;
-    let notes = walk(&fields, data)?;
-    fields
-        .into_iter()
-        .zip(notes)
-        .nth(item as usize)
-        .ok_or(Refusal::at(NO_SUCH_ITEM, 0))
+    let unfolding = unfold_for(descriptor, data)?;
+    let notes = walk(&unfolding, data)?;
+    let mut items = unfolding.iter().copied().zip(notes);
+    items.nth(item as usize).ok_or(Refusal::at(NO_SUCH_ITEM, 0))
 }
 
-fn unfold_for(descriptor: &[u8], data: &[u8]) -> Result<Vec<Field>, Refusal> {
+fn unfold_for(descriptor: &[u8], data: &[u8]) -> Result<Unfolding, Refusal> {
     if data.len() > MAX_DATA {
         return Err(Refusal::at(OVERSIZE, 0));
     }

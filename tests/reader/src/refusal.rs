@@ -38,3 +38,4 @@ pub const WRONG_KIND: u32 = 18;
 pub const BAD_FILE: u32 = 19;
 pub const BAD_DIGIT: u32 = 20;
 pub const COLUMN_MISFIT: u32 = 21;
+pub const ENDLESS: u32 = 22;

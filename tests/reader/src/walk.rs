@@ -2,6 +2,7 @@
 
 use std::ops::Range;
 
+use crate::descriptor::{Rows, Unfolding, MAX_ITEMS};
 use crate::field::{Field, Form};
 use crate::refusal::*;
 
@@ -23,12 +24,35 @@ pub struct Note {
 }
 
 /// Measures the item of each field in turn.
-pub fn walk(fields: &[Field], data: &[u8]) -> Result<Vec<Note>, Refusal> {
-    let mut notes = Vec::with_capacity(fields.len());
-    let mut start = 0;
-    for field in fields {
-        let item = measure(field, &data[start..]).map_err(|number| Refusal::at(number, start))?;
-        notes.push(Note {
+pub fn walk(unfolding: &Unfolding, data: &[u8]) -> Result<Vec<Note>, Refusal> {
+    let mut walk = Walk {
+        data,
+        start: 0,
+        notes: Vec::with_capacity(unfolding.fields.len()),
+    };
+    for field in &unfolding.fields {
+        walk.take(field)?;
+    }
+    match &unfolding.rows {
+        Some(rows) => walk.take_rows(rows)?,
+        None if walk.has_data_left() => return Err(walk.refusal(SURPLUS)),
+        None => {}
+    }
+    Ok(walk.notes)
+}
+
+/// The items taken so far, and where the next one starts.
+struct Walk<'d> {
+    data: &'d [u8],
+    start: usize,
+    notes: Vec<Note>,
+}
+
+impl Walk<'_> {
+    fn take(&mut self, field: &Field) -> Result<(), Refusal> {
+        let start = self.start;
+        let item = measure(field, &self.data[start..]).map_err(|number| self.refusal(number))?;
+        self.notes.push(Note {
             start,
             id: field.id(),
             type_code: field.type_code(),
@@ -36,12 +60,30 @@ pub fn walk(fields: &[Field], data: &[u8]) -> Result<Vec<Note>, Refusal> {
             value: start + item.value.start..start + item.value.end,
             length: item.length,
         });
-        start += item.length;
+        self.start += item.length;
+        Ok(())
     }
-    if start < data.len() {
-        return Err(Refusal::at(SURPLUS, start));
+
+    /// Takes passes until one would begin with no data left.
+    fn take_rows(&mut self, rows: &Rows) -> Result<(), Refusal> {
+        while self.has_data_left() {
+            for field in rows.pass() {
+                if self.notes.len() == MAX_ITEMS {
+                    return Err(self.refusal(TOO_MANY_ITEMS));
+                }
+                self.take(field)?;
+            }
+        }
+        Ok(())
     }
-    Ok(notes)
+
+    fn has_data_left(&self) -> bool {
+        self.start < self.data.len()
+    }
+
+    fn refusal(&self, number: u32) -> Refusal {
+        Refusal::at(number, self.start)
+    }
 }
 
 /// An item at the front of some bytes.

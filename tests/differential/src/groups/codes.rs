@@ -34,7 +34,7 @@ pub fn every_code(comparison: &mut Comparison) {
 }
 
 /// The descriptor with each beginning of the data.
-fn compare_parts(comparison: &mut Comparison, descriptor: &[u8], data: &[u8]) {
+pub(super) fn compare_parts(comparison: &mut Comparison, descriptor: &[u8], data: &[u8]) {
     for length in 0..=data.len() {
         comparison.compare(descriptor, &data[..length]);
     }

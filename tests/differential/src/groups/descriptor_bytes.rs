@@ -17,7 +17,7 @@ pub fn every_change(comparison: &mut Comparison) {
     }
 }
 
-fn blocks() -> [(Vec<u8>, Vec<u8>); 7] {
+fn blocks() -> [(Vec<u8>, Vec<u8>); 9] {
     [
         nullable_strings(),
         overrides(),
@@ -26,6 +26,8 @@ fn blocks() -> [(Vec<u8>, Vec<u8>); 7] {
         packed_decimals(),
         floats(),
         columns(),
+        rows(),
+        rows_of_columns(),
     ]
 }
 
@@ -139,4 +141,26 @@ fn columns() -> (Vec<u8>, Vec<u8>) {
     let second = [&[1, 2][..], &[0x80], &[0x3F; 4], &[8; 4], &[0, 0]];
     let data = [&first.concat()[..], &second.concat(), &[9; 4]];
     (descriptor.concat(), data.concat())
+}
+
+/// Two passes of rows behind a field, with elements taken and an item without bytes.
+fn rows() -> (Vec<u8>, Vec<u8>) {
+    let descriptor = [
+        sda(1, 0x81, 0, 1, &[2]),
+        sda(2, 0x01, 0, 0, &[]),
+        row(3, &[[1, 2, 1], [2, 0, 1]]),
+        of_parts(RLO, 4, [[2, 0, 1], [3, 0, 0]].chunks(1)),
+    ];
+    let data = [0, 7, 0x80, 0x80, 0x7F, 8];
+    (descriptor.concat(), data.to_vec())
+}
+
+/// Three passes of a column with a length put in, and one without bytes.
+fn rows_of_columns() -> (Vec<u8>, Vec<u8>) {
+    let descriptor = [
+        sda(1, 0x01, 0, 0, &[]),
+        of_parts(GDA, 2, [&[column(1, 2), column(1, 0)][..]].into_iter()),
+        row(3, &[[2, 0, 0]]),
+    ];
+    (descriptor.concat(), b"abcdef".to_vec())
 }

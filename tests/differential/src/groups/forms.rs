@@ -4,8 +4,8 @@
 use std::collections::BTreeSet;
 
 use differential::triplets::{triplets, CPT, GDA, ISD, RLO, SDA};
-use reader::generate::Generator;
-use reader::{unfold, Field};
+use reader::generate::{Case, Generator};
+use reader::{unfold, walk, Field, Unfolding};
 
 use super::is_accepted;
 use crate::compare::Comparison;
@@ -32,6 +32,13 @@ enum Form {
     Column(u8, bool),
     LayoutContinuation,
     RowOfLayouts,
+    /// The construct that rows to the end repeat.
+    Rows(u8),
+    RowsOfElementsTaken,
+    RowsBehindFields,
+    RowsInContinuation,
+    /// How many passes rows to the end have, up to three.
+    Passes(usize),
 }
 
 const FREE_LENGTHS: [bool; 2] = [false, true];
@@ -55,7 +62,7 @@ pub fn every_form(comparison: &mut Comparison) {
     let mut missing = all_forms();
     for case in Generator::new(4).filter(is_accepted).take(20_000) {
         comparison.compare(&case.descriptor, &case.data);
-        for form in forms(&case.descriptor) {
+        for form in forms(&case) {
             missing.remove(&form);
         }
     }
@@ -77,7 +84,12 @@ fn all_forms() -> BTreeSet<Form> {
         Form::Support,
         Form::LayoutContinuation,
         Form::RowOfLayouts,
+        Form::RowsOfElementsTaken,
+        Form::RowsBehindFields,
+        Form::RowsInContinuation,
     ]);
+    forms.extend([SDA, RLO, GDA].map(Form::Rows));
+    forms.extend((0..=3).map(Form::Passes));
     forms.extend((1..=18).map(Form::Digits));
     forms.extend([0x40, 0x47, 0x48, 0xC0, 0xC7, 0xC8].map(Form::Default));
     for (plain, modes, lengths) in TYPES {
@@ -95,12 +107,15 @@ fn all_forms() -> BTreeSet<Form> {
     forms
 }
 
-fn forms(descriptor: &[u8]) -> Vec<Form> {
-    let fields = unfold(descriptor).unwrap_or_default();
+fn forms(case: &Case) -> Vec<Form> {
+    let unfolding = unfold(&case.descriptor).expect("a valid descriptor");
+    let notes = walk(&unfolding, &case.data).expect("a good block");
+    let fields = unfolding.first(notes.len());
     let mut forms: Vec<Form> = fields.iter().map(field_form).collect();
     let packed = fields.iter().filter(|field| field.plain_type() == 0x30);
     forms.extend(packed.map(|field| Form::Digits(field.parameters()[6])));
-    let triplets = triplets(descriptor);
+    forms.extend(rows_forms(&unfolding, notes.len()));
+    let triplets = triplets(&case.descriptor);
     let mut continued = 0;
     for triplet in &triplets {
         let construct = triplet[1];
@@ -119,11 +134,24 @@ fn forms(descriptor: &[u8]) -> Vec<Form> {
                 forms.extend(groups.map(|group| column_form(group, &triplets)));
             }
             _ => {
+                let has_rows = triplet[triplet.len() - 1] == 0;
                 forms.extend((construct == CPT).then_some(Form::Continuation));
+                forms.extend((construct == CPT && has_rows).then_some(Form::RowsInContinuation));
                 forms.extend(groups.flat_map(|group| group_forms(group, &triplets)));
             }
         }
     }
+    forms
+}
+
+fn rows_forms(unfolding: &Unfolding, count: usize) -> Vec<Form> {
+    let before = unfolding.fields.len();
+    let Some(rows) = &unfolding.rows else {
+        return Vec::new();
+    };
+    let passes = (count - before) / rows.pass_length();
+    let mut forms = vec![Form::Passes(passes.min(3))];
+    forms.extend((before > 0).then_some(Form::RowsBehindFields));
     forms
 }
 
@@ -137,7 +165,7 @@ fn field_form(field: &Field) -> Form {
 
 /// The form of an SDA with a field of its own for which other parameters hold.
 fn default_form(sda: &[u8], fields: &[Field]) -> Option<Form> {
-    let own = unfold(sda).ok()?[0];
+    let own = unfold(sda).ok()?.fields[0];
     let is_met = own.parameters() != sda[4..12] && fields.contains(&own);
     is_met.then_some(Form::Default(own.type_code()))
 }
@@ -159,6 +187,8 @@ fn group_forms(group: &[u8], triplets: &[&[u8]]) -> impl Iterator<Item = Form> {
     [
         (group[1] > 0).then_some(Form::ElementsTaken),
         (group[2] > 1).then_some(Form::Repetition),
+        (group[2] == 0).then_some(Form::Rows(construct)),
+        (group[1] > 0 && group[2] == 0).then_some(Form::RowsOfElementsTaken),
         (construct == RLO).then_some(Form::Nest),
         (construct == GDA).then_some(Form::RowOfLayouts),
     ]

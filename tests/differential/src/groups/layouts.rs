@@ -112,27 +112,27 @@ fn triplets() -> [Vec<u8>; 14] {
     ]
 }
 
-/// Every run of up to four of those triplets, alone and behind the first SDA.
 pub fn every_run(comparison: &mut Comparison) {
     let triplets = triplets();
+    compare_runs(comparison, &triplets[0], &triplets);
+}
+
+/// Every run of up to four of the parts, alone and behind something.
+pub(super) fn compare_runs(comparison: &mut Comparison, before: &[u8], parts: &[Vec<u8>]) {
     let mut runs = vec![Vec::new()];
     for _ in 0..4 {
-        runs = longer(&runs, &triplets);
+        runs = longer(&runs, parts);
         for run in &runs {
             comparison.compare(run, &fitting(run, 0));
-            let behind = [&triplets[0], &run[..]].concat();
+            let behind = [before, run].concat();
             comparison.compare(&behind, &fitting(&behind, 0));
         }
     }
 }
 
-fn longer(runs: &[Vec<u8>], triplets: &[Vec<u8>]) -> Vec<Vec<u8>> {
+fn longer(runs: &[Vec<u8>], parts: &[Vec<u8>]) -> Vec<Vec<u8>> {
     runs.iter()
-        .flat_map(|run| {
-            triplets
-                .iter()
-                .map(move |triplet| [&run[..], triplet].concat())
-        })
+        .flat_map(|run| parts.iter().map(move |part| [&run[..], part].concat()))
         .collect()
 }
 

@@ -2,7 +2,9 @@
 
 use differential::triplets::{column, layout, nest, row, sda, Group};
 use reader::generate::{full_descriptor, full_group};
-use reader::{check, state, Refusal, MAX_DATA, MAX_DESCRIPTOR, SURPLUS};
+use reader::{
+    check, unfold, walk, Refusal, Unfolding, MAX_DATA, MAX_DESCRIPTOR, MAX_ITEMS, SURPLUS,
+};
 
 use crate::compare::Comparison;
 
@@ -40,9 +42,15 @@ pub(super) fn compare_around(comparison: &mut Comparison, descriptor: &[u8]) {
     }
 }
 
-/// As many equal bytes as the descriptor's items take, few if it is refused.
+/// As many equal bytes as the descriptor's items take, of rows to the end with two passes; few if
+/// it is refused.
 pub(super) fn fitting(descriptor: &[u8], byte: u8) -> Vec<u8> {
-    let length = match state(descriptor, &[byte; MAX_DATA], 0) {
+    let two_passes = |unfolding: Unfolding| Unfolding {
+        fields: unfolding.first(unfolding.count(2).min(MAX_ITEMS)),
+        rows: None,
+    };
+    let items = unfold(descriptor).map(two_passes);
+    let length = match items.and_then(|items| walk(&items, &[byte; MAX_DATA])) {
         Ok(_) => MAX_DATA,
         Err(Refusal {
             number: SURPLUS,

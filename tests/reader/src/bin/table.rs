@@ -14,6 +14,7 @@ use reader::{dump, Answers, Counts};
 
 const CHUNK: usize = 50;
 const LONG_CHUNK: usize = 4;
+const FILE_CHUNK: usize = 5;
 const SHORTEST_RUN: usize = 16;
 const FEWEST: u64 = 10;
 const FILES: usize = 100;
@@ -86,7 +87,7 @@ fn print_cases(
 }
 
 fn print_files(out: &mut impl Write, files: &[Vec<u8>]) -> io::Result<()> {
-    for (number, chunk) in files.chunks(CHUNK).enumerate() {
+    for (number, chunk) in files.chunks(FILE_CHUNK).enumerate() {
         let row = |file: &Vec<u8>| {
             let text = dump(file);
             format!(

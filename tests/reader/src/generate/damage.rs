@@ -1,7 +1,7 @@
 //! Damage to the triplets of a valid descriptor.
 
 use super::random::Random;
-use super::structured::isd;
+use super::structured::{isd, sda, with_groups};
 use crate::descriptor::{CPT, GDA, RLO, SDA};
 use crate::field::NULLABLE;
 
@@ -13,7 +13,10 @@ pub(super) fn damaged(random: &mut Random, mut triplets: Vec<Vec<u8>>) -> Vec<u8
     let mut descriptor = triplets.concat();
     match random.below(12) {
         0 => descriptor.truncate(random.below(descriptor.len() + 1)),
-        1 => descriptor.extend(random.bytes(2)),
+        1 => {
+            let count = random.between(1, 2);
+            descriptor.extend(random.bytes(count));
+        }
         2 if !descriptor.is_empty() => {
             let offset = random.below(descriptor.len());
             descriptor[offset] = random.byte();
@@ -24,13 +27,14 @@ pub(super) fn damaged(random: &mut Random, mut triplets: Vec<Vec<u8>>) -> Vec<u8
 }
 
 fn damage(random: &mut Random, triplets: &mut Vec<Vec<u8>>) {
-    match random.below(20) {
+    match random.below(24) {
         0 | 1 => header(random, triplets),
         2..=5 => parameters(random, triplets),
         6 => extents(random, triplets),
         7..=12 => group(random, triplets),
         13..=15 => column(random, triplets),
         16 => stray(random, triplets),
+        17..=20 => rows(random, triplets),
         _ => order(random, triplets),
     }
 }
@@ -141,6 +145,55 @@ fn column(random: &mut Random, triplets: &mut [Vec<u8>]) {
     let type_code = triplets.iter().find(refers).map_or(0, |sda| sda[3]);
     let length = random.pick(lengths_around(type_code));
     triplets[place][offset + 1..offset + 3].copy_from_slice(&length.to_be_bytes());
+}
+
+/// Makes the last factor 0, that of any group, or the last one over fields without bytes; or puts
+/// something behind factor 0.
+fn rows(random: &mut Random, triplets: &mut Vec<Vec<u8>>) {
+    match random.below(6) {
+        0 => repeat_last(triplets),
+        1 => {
+            if let Some(triplet) = any(random, triplets, has_groups) {
+                let factor = 3 * random.between(2, triplet.len() / 3) - 1;
+                triplet[factor] = 0;
+            }
+        }
+        2..=4 => {
+            repeat_last(triplets);
+            for sda in triplets.iter_mut().filter(|triplet| is_sda(triplet)) {
+                sda[3] = 0x01;
+                sda[4..12].fill(0);
+            }
+        }
+        _ => {
+            repeat_last(triplets);
+            triplets.push(behind_rows(random, &ids(triplets)));
+        }
+    }
+}
+
+fn repeat_last(triplets: &mut [Vec<u8>]) {
+    if let Some(triplet) = triplets.last_mut().filter(|triplet| has_groups(triplet)) {
+        let factor = triplet.len() - 1;
+        triplet[factor] = 0;
+    }
+}
+
+/// Another triplet, or bytes that are none.
+fn behind_rows(random: &mut Random, ids: &[u8]) -> Vec<u8> {
+    let id = random.pick(&[1, 2, 255]);
+    let reference = match ids.is_empty() {
+        true => id,
+        false => random.pick(ids),
+    };
+    let group = [reference, 0, random.pick(&[0, 1, 1])];
+    match random.below(5) {
+        0 => isd(random),
+        1 => sda(random, id, &[]),
+        2 => with_groups(RLO, id, &[group]),
+        3 => with_groups(CPT, 0, &[group]),
+        _ => random.bytes(3),
+    }
 }
 
 /// Puts an ISD or a CPT in any place, well made or not.

@@ -4,11 +4,12 @@
 mod columns;
 mod floats;
 mod packed;
+mod rows;
 
 use super::fitting;
 use super::random::Random;
 use super::structured::{plain_parameters, sda_of, with_groups, TYPES};
-use super::{Case, Generator};
+use super::{fields_of, Case, Generator, SMALL_BYTES, SMALL_ITEMS};
 use crate::descriptor::{CPT, GDA, ISD, MAX_DESCRIPTOR, RLO, SDA};
 use crate::field::NULLABLE;
 use crate::unfold;
@@ -30,6 +31,7 @@ pub fn edges() -> Vec<Case> {
     cases.extend(packed::blocks());
     cases.extend(floats::blocks());
     cases.extend(columns::blocks());
+    cases.extend(rows::blocks());
     cases
 }
 
@@ -41,6 +43,7 @@ pub fn limits() -> Vec<Case> {
         .into_iter()
         .map(|descriptor| fitting_case(&mut random, descriptor))
         .collect();
+    cases.extend(rows::counts());
     for size in [MAX_DESCRIPTOR - 1, MAX_DESCRIPTOR, MAX_DESCRIPTOR + 1] {
         cases.push(case(&vec![0; size], &[], 4, 0));
     }
@@ -50,11 +53,13 @@ pub fn limits() -> Vec<Case> {
     cases
 }
 
-/// A descriptor with data that fits, where that is short.
+/// A descriptor with data that fits, where that is short; of rows to the end, with two passes.
 fn fitting_case(random: &mut Random, descriptor: Vec<u8>) -> Case {
-    let mut fields = unfold(&descriptor).unwrap_or_default();
-    let is_long = fields.iter().any(|field| field.field_length() > MOST_BYTES);
-    if is_long || fields.len() > MOST_ITEMS {
+    let mut fields = match unfold(&descriptor) {
+        Ok(unfolding) if unfolding.count(2) <= MOST_ITEMS => unfolding.first(unfolding.count(2)),
+        _ => Vec::new(),
+    };
+    if fields.iter().any(|field| field.field_length() > MOST_BYTES) {
         fields.clear();
     }
     Case {
@@ -79,6 +84,7 @@ fn descriptors() -> Vec<Vec<u8>> {
         packed::descriptors(),
         floats::descriptors(),
         columns::descriptors(),
+        rows::descriptors(),
     ]
     .concat()
 }
@@ -381,7 +387,10 @@ fn behind_a_byte(sda: Vec<u8>) -> Vec<u8> {
 
 /// Files for the dump program: of random blocks, and around their sizes.
 pub fn files(seed: u64, count: usize) -> Vec<Vec<u8>> {
-    let is_small = |case: &Case| case.descriptor.len() + case.data.len() < 2 * super::SMALL_BYTES;
+    let is_small = |case: &Case| {
+        case.descriptor.len() + case.data.len() < SMALL_BYTES
+            && fields_of(&case.descriptor, &case.data).len() < SMALL_ITEMS
+    };
     let mut files: Vec<Vec<u8>> = Generator::new(seed)
         .filter(is_small)
         .take(count)
@@ -398,6 +407,7 @@ pub fn files(seed: u64, count: usize) -> Vec<Vec<u8>> {
     ));
     files.extend(floats::files());
     files.extend(columns::files());
+    files.extend(rows::files());
     // sizes that the file does not fit, or that are over their limits
     for length in 0..=9 {
         files.push(vec![0; length]);

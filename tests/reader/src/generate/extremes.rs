@@ -25,7 +25,7 @@ pub(super) fn large_count(random: &mut Random) -> (Vec<u8>, Vec<u8>) {
         (0x01, 1, Some(7)),
     ]);
     let descriptor = large_descriptor(random, type_code, plain_parameters(0, field_length));
-    let count = unfold(&descriptor).map_or(16, |fields| fields.len());
+    let count = unfold(&descriptor).map_or(16, |unfolding| unfolding.fields.len());
     let surplus = random.pick(&[0, 0, 0, 1, 16]);
     let data = byte.map_or(vec![0; surplus], |byte| vec![byte; count + surplus]);
     (descriptor, data)
@@ -64,6 +64,28 @@ fn large_descriptor(random: &mut Random, type_code: u8, parameters: [u8; 8]) -> 
     }
 }
 
+/// Rows to the end of many items, up to 4,096 and more. One item of a pass has a byte, the others
+/// have none.
+pub(super) fn large_rows(random: &mut Random) -> (Vec<u8>, Vec<u8>) {
+    let (type_code, field_length, byte) =
+        random.pick(&[(0x01, 1, 7), (0x81, 0, 0x80), (0x87, 0, 0xFF), (0x07, 0, 0)]);
+    let before = random.pick(&[0, 0, 1, 16]);
+    let others = random.pick(&[0, 1, 2, 15, 63, 254]);
+    let mut row = vec![[2, others, 1]; usize::from(others > 0)];
+    row.insert(random.below(row.len() + 1), [1, 0, 1]);
+    let mut groups = vec![[2, before, 1]; usize::from(before > 0)];
+    groups.push([3, 0, 0]);
+    let descriptor = [
+        sda_of(1, type_code, plain_parameters(0, field_length), &[]),
+        sda_of(2, 0x01, plain_parameters(0, 0), &[1]),
+        with_groups(RLO, 3, &row),
+        with_groups(RLO, 4, &groups),
+    ];
+    let items = random.pick(&[61, 255, 256, 1000, 4095, 4096, 4097, 4097]);
+    let passes = (items - usize::from(before)).div_ceil(usize::from(others) + 1);
+    (descriptor.concat(), vec![byte; passes])
+}
+
 /// Random bytes, triplets of random contents, deep nests, many groups.
 pub(super) fn hostile_descriptor(random: &mut Random) -> Vec<u8> {
     match random.below(5) {
@@ -90,7 +112,8 @@ fn random_triplets(random: &mut Random) -> Vec<u8> {
     descriptor
 }
 
-/// RLOs one over the other, at times over a GDA, and at times as deep as ids allow.
+/// RLOs one over the other, at times over a GDA, at times as deep as ids allow, and at times with
+/// rows to the end.
 fn nest(random: &mut Random) -> Vec<u8> {
     let depth = if random.one_in(30) {
         255
@@ -107,6 +130,10 @@ fn nest(random: &mut Random) -> Vec<u8> {
     for id in 3..=depth as u8 {
         let factor = random.between(1, most) as u8;
         descriptor.extend(with_groups(RLO, id, &[[id - 1, 0, factor]]));
+    }
+    if random.one_in(4) {
+        let factor = descriptor.len() - 1;
+        descriptor[factor] = 0;
     }
     descriptor
 }

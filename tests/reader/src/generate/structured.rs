@@ -10,7 +10,8 @@ pub(super) const TYPES: [u8; 13] = [
     0x01, 0x02, 0x03, 0x07, 0x23, 0x24, 0x23, 0x24, 0x30, 0x30, 0x40, 0x47, 0x48,
 ];
 
-/// The triplets of a valid descriptor of at most `items` items.
+/// The triplets of a valid descriptor of at most `items` items, and of at most so many in a pass of
+/// rows to the end.
 pub(super) fn triplets(random: &mut Random, items: usize) -> Vec<Vec<u8>> {
     let mut draft = Draft {
         random,
@@ -130,6 +131,8 @@ struct Described {
     per_element: Option<usize>,
     /// The plain type of an SDA without extents.
     column: Option<u8>,
+    /// Whether some item has bytes, whatever the data.
+    has_bytes: bool,
 }
 
 struct Draft<'r> {
@@ -152,6 +155,9 @@ impl Draft<'_> {
                 _ => self.add_sda(),
             }
         }
+        if self.random.one_in(4) {
+            self.add_rows();
+        }
     }
 
     fn add_sda(&mut self) {
@@ -164,13 +170,18 @@ impl Draft<'_> {
             left /= extent;
             extents.push(extent as u16);
         }
-        let product = |extents: &[u16]| extents.iter().map(|&extent| usize::from(extent)).product();
         let triplet = sda(self.random, id, &extents);
+        self.push_sda(triplet, &extents);
+    }
+
+    fn push_sda(&mut self, triplet: Vec<u8>, extents: &[u16]) {
+        let product = |extents: &[u16]| extents.iter().map(|&extent| usize::from(extent)).product();
         self.described.push(Described {
-            id,
-            count: product(&extents),
+            id: triplet[2],
+            count: product(extents),
             per_element: extents.split_first().map(|(_, lower)| product(lower)),
             column: extents.is_empty().then_some(triplet[3] & !NULLABLE),
+            has_bytes: triplet[3] != 0x01 || triplet[10..12] != [0, 0],
         });
         self.triplets.push(triplet);
     }
@@ -188,7 +199,41 @@ impl Draft<'_> {
             count: self.items - left,
             per_element: None,
             column: None,
+            has_bytes: groups.iter().any(|group| self.has_bytes(group[0])),
         });
+    }
+
+    fn has_bytes(&self, id: u8) -> bool {
+        let described = self.described.iter().find(|described| described.id == id);
+        described.is_some_and(|described| described.has_bytes)
+    }
+
+    /// Adds an RLO with rows to the end, if there is something with bytes to repeat; at times an
+    /// RLO over a field without bytes is made before.
+    fn add_rows(&mut self) {
+        if self.random.one_in(3) {
+            let id = self.fresh_id();
+            self.push_sda(sda_of(id, 0x01, plain_parameters(0, 0), &[]), &[]);
+            self.add_rlo();
+        }
+        let has_bytes = |described: &Described| described.has_bytes;
+        let lower: Vec<Described> = self.described.iter().copied().filter(has_bytes).collect();
+        let Some(&last) = lower.last() else {
+            return;
+        };
+        let repeated = match self.random.one_in(2) {
+            true => last,
+            false => self.random.pick(&lower),
+        };
+        let id = self.fresh_id();
+        let mut groups = Vec::new();
+        let mut left = self.items;
+        for _ in 0..self.random.pick(&[0, 0, 1, 2, 3]) {
+            left -= self.add_group(&mut groups, left);
+        }
+        let (elements_taken, _) = self.elements(repeated, self.items);
+        groups.push([repeated.id, elements_taken, 0]);
+        self.push_groups(RLO, id, &groups);
     }
 
     /// The SDAs without extents: their ids and plain types.
@@ -215,27 +260,36 @@ impl Draft<'_> {
             count,
             per_element: None,
             column: None,
+            has_bytes: groups
+                .iter()
+                .any(|group| group[1..] != [0, 0] || self.has_bytes(group[0])),
         });
     }
 
     /// Adds a group of at most `left` items, if there is one, and gives its count.
     fn add_group(&mut self, groups: &mut Vec<[u8; 3]>, left: usize) -> usize {
         let lower = self.random.pick(&self.described);
-        let (elements_taken, count) = match lower.per_element {
-            Some(count) if count <= left && self.random.one_in(2) => {
-                let most = (left / count).min(self.random.pick(&[4, 9, 255]));
-                let elements_taken = self.random.between(1, most);
-                (elements_taken, elements_taken * count)
-            }
-            _ => (0, lower.count),
-        };
+        let (elements_taken, count) = self.elements(lower, left);
         if count > left {
             return 0;
         }
         let most = (left / count).min(self.random.pick(&[1, 2, 4, 255]));
         let factor = self.random.between(1, most);
-        groups.push([lower.id, elements_taken as u8, factor as u8]);
+        groups.push([lower.id, elements_taken, factor as u8]);
         count * factor
+    }
+
+    /// Elements taken of a lower triplet, of at most `left` items, or none; and the count of its
+    /// items then.
+    fn elements(&mut self, lower: Described, left: usize) -> (u8, usize) {
+        match lower.per_element {
+            Some(count) if count <= left && self.random.one_in(2) => {
+                let most = (left / count).min(self.random.pick(&[4, 9, 255]));
+                let elements_taken = self.random.between(1, most);
+                (elements_taken as u8, elements_taken * count)
+            }
+            _ => (0, lower.count),
+        }
     }
 
     /// Puts groups into an RLO or a GDA and, now and then, a chain of CPTs.
@@ -283,7 +337,7 @@ mod tests {
         for type_code in [0x40, 0x47, 0x48, 0xC0, 0xC7, 0xC8] {
             for gives_way in [false, true] {
                 let is_meant = |sda: &&Vec<u8>| {
-                    let field = unfold(sda).expect("an accepted SDA")[0];
+                    let field = unfold(sda).expect("an accepted SDA").fields[0];
                     let is_default = field.parameters() != sda[4..12];
                     sda[3] == type_code && is_default == gives_way
                 };

@@ -7,7 +7,7 @@ use crate::support::{assert_block, assert_wrong_kinds, hex, rows, Answer};
 
 /// An item as it is listed: id, type code, and its bytes with the value in brackets. A null
 /// has no value.
-struct Item {
+pub struct Item {
     id: u8,
     type_code: u8,
     start: usize,
@@ -16,7 +16,10 @@ struct Item {
 }
 
 /// The items of a row, one behind the other.
-fn items(text: &str) -> Vec<Item> {
+pub fn items(text: &str) -> Vec<Item> {
+    if text.is_empty() {
+        return Vec::new();
+    }
     let mut start = 0;
     let item = |text: &str| {
         let parts: Vec<Vec<u8>> = text.split(['[', ']']).map(hex).collect();
@@ -38,17 +41,23 @@ fn items(text: &str) -> Vec<Item> {
 pub fn assert_cuts(table: &str) {
     for [name, descriptor, text] in rows(table) {
         let (descriptor, items) = (hex(descriptor), items(text));
-        let data: Vec<u8> = items.iter().flat_map(|item| item.bytes.clone()).collect();
-        assert_list(name, &descriptor, &data, &items);
-        for (number, item) in (0..).zip(&items) {
-            assert_value(name, &descriptor, &data, number, item);
-        }
+        let data = assert_items(name, &descriptor, &items);
         let last = items[items.len() - 1].start;
         let cut = Answer::parse(&format!("refused 13 {last}"));
         let surplus = Answer::parse(&format!("refused 16 {}", data.len()));
         assert_block(name, &descriptor, &data[..data.len() - 1], &cut);
         assert_block(name, &descriptor, &[&data[..], &[0]].concat(), &surplus);
     }
+}
+
+/// Asserts a block of the items given, and gives its data.
+pub fn assert_items(name: &str, descriptor: &[u8], items: &[Item]) -> Vec<u8> {
+    let data: Vec<u8> = items.iter().flat_map(|item| item.bytes.clone()).collect();
+    assert_list(name, descriptor, &data, items);
+    for (number, item) in (0..).zip(items) {
+        assert_value(name, descriptor, &data, number, item);
+    }
+    data
 }
 
 fn assert_list(name: &str, descriptor: &[u8], data: &[u8], items: &[Item]) {

@@ -59,7 +59,7 @@ fn a_null_of_another_type_is_the_wrong_kind() {
 const AFTER_SDA: &str = "
 alone        |                           | items 1
 R            | 0671A1B10002              | items 2
-repetition 0 | 0671A1B10000              | refused 9 12
+repetition 0 | 0671A1B10000 0671A2B10001 | refused 9 12
 64 times 64  | 0671A1B10040 0671A2A10040 | items 4096
 65 times 64  | 0671A1B10040 0671A2A10041 | refused 10 18
 ";

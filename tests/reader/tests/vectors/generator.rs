@@ -1,6 +1,6 @@
 //! The random cases, and what must hold of the answers to any of them.
 
-use reader::generate::{Case, Generator};
+use reader::generate::{limits, Case, Generator};
 use reader::*;
 
 #[test]
@@ -56,8 +56,8 @@ fn assert_list(case: &Case, answers: &Answers) {
         assert_eq!(answers.list_after, *before);
         return;
     }
-    let fields = unfold(&case.descriptor).unwrap_or_default();
-    let notes = walk(&fields, &case.data).unwrap_or_default();
+    let unfolding = unfold(&case.descriptor).expect("a valid descriptor");
+    let notes = walk(&unfolding, &case.data).expect("a good block");
     let mut expected = vec![notes.len() as u32, case.data.len() as u32];
     expected.extend(notes.iter().map(|note| note.start as u32));
     expected.extend(notes.iter().map(|note| u32::from(note.id)));
@@ -66,10 +66,10 @@ fn assert_list(case: &Case, answers: &Answers) {
 }
 
 /// The items of an accepted block lie one after the other and fill it.
-fn assert_notes(fields: &[Field], notes: &[Note], data: &[u8]) {
+fn assert_notes(unfolding: &Unfolding, notes: &[Note], data: &[u8]) {
     let mut position = 0;
-    assert_eq!(fields.len(), notes.len());
-    for (field, note) in fields.iter().zip(notes) {
+    assert_whole_passes(unfolding, notes.len());
+    for (field, note) in unfolding.iter().zip(notes) {
         assert_eq!(note.start, position);
         assert_eq!((note.id, note.type_code), (field.id(), field.type_code()));
         position += note.length;
@@ -79,14 +79,24 @@ fn assert_notes(fields: &[Field], notes: &[Note], data: &[u8]) {
     assert_eq!(position, data.len());
 }
 
+/// A block has all items of its descriptor, and whole passes behind them.
+fn assert_whole_passes(unfolding: &Unfolding, items: usize) {
+    let behind = items - unfolding.fields.len();
+    match &unfolding.rows {
+        Some(rows) => assert_eq!(behind % rows.pass_length(), 0),
+        None => assert_eq!(behind, 0),
+    }
+    assert!(items <= MAX_ITEMS);
+}
+
 #[test]
 fn answers_agree_with_each_other() {
     for case in Generator::new(2).take(5_000) {
         let answers = Answers::of(&case);
         assert_list(&case, &answers);
-        if let Ok(fields) = unfold(&case.descriptor) {
-            if let Ok(notes) = walk(&fields, &case.data) {
-                assert_notes(&fields, &notes, &case.data);
+        if let Ok(unfolding) = unfold(&case.descriptor) {
+            if let Ok(notes) = walk(&unfolding, &case.data) {
+                assert_notes(&unfolding, &notes, &case.data);
             }
         }
         match answers.state {
@@ -111,18 +121,46 @@ fn values_are_lent_from_the_data() {
     }
 }
 
-/// A block that ends earlier or goes on is refused: no accepted block is the
-/// beginning of another one.
+/// A good block with its unfolding and what the walk notes of it.
+struct Good {
+    case: Case,
+    unfolding: Unfolding,
+    notes: Vec<Note>,
+}
+
+impl Good {
+    /// The first item of each pass of rows to the end.
+    fn passes(&self) -> Option<Vec<usize>> {
+        let length = self.unfolding.rows.as_ref()?.pass_length();
+        let items = self.unfolding.fields.len()..self.notes.len();
+        Some(items.step_by(length).collect())
+    }
+}
+
+/// Short good blocks among so many cases.
+fn good_blocks(seed: u64, count: usize) -> impl Iterator<Item = Good> {
+    let is_short = |case: &Case| case.data.len() <= 200;
+    let cases = Generator::new(seed).take(count).filter(is_short);
+    cases.filter_map(|case| {
+        let unfolding = unfold(&case.descriptor).ok()?;
+        let notes = walk(&unfolding, &case.data).ok()?;
+        (notes.len() <= 60).then_some(Good {
+            case,
+            unfolding,
+            notes,
+        })
+    })
+}
+
+/// A block without rows to the end that ends earlier or goes on is refused: no accepted block is
+/// the beginning of another one.
 #[test]
 fn an_accepted_block_refuses_to_be_cut_or_continued() {
-    for case in Generator::new(5).take(1_500) {
-        let (descriptor, data) = (&case.descriptor, &case.data);
-        let is_long = data.len() > 200 || check(descriptor).unwrap_or(0) > 60;
-        if is_long || state(descriptor, data, 0).is_err() {
-            continue;
-        }
+    let blocks = good_blocks(5, 1_500).filter(|block| block.unfolding.rows.is_none());
+    for block in blocks {
+        let (unfolding, data) = (&block.unfolding, &block.case.data);
         for length in 0..data.len() {
-            let cut = state(descriptor, &data[..length], 0).map_err(|refusal| refusal.number);
+            let cut = walk(unfolding, &data[..length]).map_err(|refusal| refusal.number);
             assert_eq!(cut, Err(SHORT_DATA));
         }
         let longer = [&data[..], &[0]].concat();
@@ -130,6 +168,75 @@ fn an_accepted_block_refuses_to_be_cut_or_continued() {
             number: SURPLUS,
             place: data.len() as u32,
         };
-        assert_eq!(state(descriptor, &longer, 0), Err(surplus));
+        assert_eq!(walk(unfolding, &longer), Err(surplus));
     }
+}
+
+/// Rows to the end may be cut before any pass, and nowhere else.
+#[test]
+fn rows_to_the_end_are_cut_between_passes() {
+    let mut cuts = 0;
+    for block in good_blocks(5, 3_000) {
+        let Some(passes) = block.passes() else {
+            continue;
+        };
+        let data = &block.case.data;
+        for length in 0..data.len() {
+            let starts_here = |item: &usize| block.notes[*item].start == length;
+            let whole = passes.iter().copied().find(starts_here);
+            let cut = walk(&block.unfolding, &data[..length]).map(|notes| notes.len());
+            let cut = cut.map_err(|refusal| refusal.number);
+            assert_eq!(cut, whole.ok_or(SHORT_DATA));
+            cuts += u32::from(whole.is_some());
+        }
+    }
+    assert!(cuts >= 500, "{cuts}");
+}
+
+/// Rows to the end read like the same rows with the number of their passes as factor.
+#[test]
+fn rows_to_the_end_are_as_many_as_there_are() {
+    let mut met = 0;
+    for block in good_blocks(8, 3_000) {
+        let passes = block.passes().unwrap_or_default().len();
+        if passes == 0 {
+            continue;
+        }
+        let mut counted = block.case.clone();
+        let factor = counted.descriptor.len() - 1;
+        counted.descriptor[factor] = passes as u8;
+        assert_eq!(check(&counted.descriptor), Ok(block.notes.len() as u32));
+        let [rows, counted] = [&block.case, &counted].map(Answers::of);
+        let expected = Answers {
+            check: rows.check,
+            ..counted
+        };
+        assert_eq!(rows, expected);
+        met += 1;
+    }
+    assert!(met >= 200, "{met}");
+}
+
+#[test]
+fn rows_to_the_end_have_none_to_many_passes() {
+    let mut met = [0; 10];
+    for passes in good_blocks(9, 3_000).filter_map(|block| block.passes()) {
+        met[passes.len().min(9)] += 1;
+    }
+    assert!(met.iter().all(|&times| times > 0), "{met:?}");
+    assert!(met[..4].iter().all(|&times| times >= 20), "{met:?}");
+}
+
+/// The walk's number 10, among the fixed cases and among the random ones.
+#[test]
+fn rows_to_the_end_of_too_many_items_are_met() {
+    let is_met = |case: &Case| {
+        let answer = state(&case.descriptor, &case.data, case.item);
+        let number = answer.map_err(|refusal| refusal.number);
+        check(&case.descriptor).is_ok() && number == Err(TOO_MANY_ITEMS)
+    };
+    let fixed = limits().into_iter().filter(is_met).count();
+    assert!(fixed >= 5, "{fixed}");
+    let random = Generator::new(1).take(5_000).filter(is_met).count();
+    assert!(random >= 5, "{random}");
 }

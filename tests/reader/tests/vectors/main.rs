@@ -9,4 +9,5 @@ mod generator;
 mod groups;
 mod limits;
 mod packed;
+mod rows;
 mod support;

@@ -229,7 +229,7 @@ fn assert_item(name: &str, descriptor: &[u8], data: &[u8], answer: &Answer) {
     assert_wrong_kinds(name, descriptor, data, 0, descriptor[3], 0);
     let mut entries = [u32::MAX; 5];
     if check(descriptor) == Ok(1) {
-        let id = unfold(descriptor).expect(name)[0].id();
+        let id = unfold(descriptor).expect(name).fields[0].id();
         assert_eq!(list(descriptor, data, &mut entries), Ok(()), "{name}");
         let expected = [1, data.len() as u32, 0, id.into(), u32::MAX];
         assert_eq!(entries, expected, "{name}");
