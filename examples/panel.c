@@ -47,25 +47,18 @@ struct column {
     struct decimal sum;
 };
 
-/* The part that a number's place is an offset in; NULL where there is no place to tell. */
-static const char *part_of_place(uint32_t number)
+static int refused_file(uint32_t number)
 {
-    if ((number >= FDOCA_TRIPLET_TRUNCATED && number <= FDOCA_DESCRIPTOR_MISSING) || number == FDOCA_COLUMN_MISFIT)
-        return "descriptor";
-    if ((number >= FDOCA_DATA_TRUNCATED && number <= FDOCA_TRAILING_DATA) || number == FDOCA_WRONG_TYPE ||
-        number == FDOCA_INVALID_DIGIT)
-        return "data";
-    return NULL;
+    fprintf(stderr, "file refused: %s (number %" PRIu32 ")\n", fdoca_text(number), number);
+    return REFUSED;
 }
 
-static int refused(const char *what, uint32_t number, uint32_t place)
+/* The place is an offset in the part: in the descriptor for what the check refuses, in the data for what is refused once the
+ * descriptor is known to be good. */
+static int refused(const char *what, uint32_t number, uint32_t place, const char *part)
 {
-    const char *part = part_of_place(number);
-
-    fprintf(stderr, "%s refused: %s (number %" PRIu32 ")", what, fdoca_text(number), number);
-    if (part != NULL)
-        fprintf(stderr, ", at byte %" PRIu32 " of the %s", place, part);
-    fprintf(stderr, "\n");
+    fprintf(stderr, "%s refused: %s (number %" PRIu32 "), at byte %" PRIu32 " of the %s\n", what, fdoca_text(number),
+            number, place, part);
     return REFUSED;
 }
 
@@ -82,7 +75,7 @@ static uint32_t big_endian(const uint8_t bytes[4])
 
 static int bad_file(FILE *file)
 {
-    return ferror(file) ? unusable("the file cannot be read") : refused("file", FDOCA_BAD_FILE, 0);
+    return ferror(file) ? unusable("the file cannot be read") : refused_file(FDOCA_BAD_FILE);
 }
 
 /* Reads what follows the sizes, which are within their limits. One byte more is asked for, to see a file that goes on. */
@@ -112,7 +105,7 @@ static int read_block(FILE *file, struct block *block)
     uint32_t data_size = big_endian(head + 4);
 
     if (descriptor_size > FDOCA_MAX_DESCRIPTOR || data_size > FDOCA_MAX_DATA)
-        return refused("file", FDOCA_SIZE_LIMIT, 0);
+        return refused_file(FDOCA_SIZE_LIMIT);
     return read_parts(file, descriptor_size, data_size, block);
 }
 
@@ -178,7 +171,7 @@ static int ask(const struct block *block, uint32_t k, struct item *item)
                      ? ask_number(block, k, &place, item)
                      : fdoca_lend(block->descriptor, block->descriptor_size, block->data, block->data_size, k, &place,
                                   &item->offset, &item->length);
-    return number == FDOCA_ACCEPTED ? ACCEPTED : refused("item", number, place);
+    return number == FDOCA_ACCEPTED ? ACCEPTED : refused("item", number, place, "data");
 }
 
 static void print_decimal(struct decimal number)
@@ -273,7 +266,7 @@ static int add_item(const struct block *block, uint32_t k, struct column *column
     if (number == FDOCA_ACCEPTED)
         number = ask_number(block, k, &place, &item);
     if (number != FDOCA_ACCEPTED)
-        return refused("column", number, place);
+        return refused("column", number, place, "data");
     if (column->items > 0 && column->sum.fraction_digits != item.number.fraction_digits)
         return unusable("the numbers of this id differ in their fraction digits");
     if (!add(&column->sum.digits, item.number.digits))
@@ -307,24 +300,20 @@ static int print_sum(const struct block *block, const uint32_t *list, uint32_t i
     return ACCEPTED;
 }
 
-/* The list's room is measured by the check, so the list call never finds it too small. */
-static int show_items(const struct block *block, uint32_t items, uint32_t id)
+/* The list has room for any block: how many items rows to the end have is not known before. */
+static int show_items(const struct block *block, uint32_t id)
 {
+    static uint32_t list[FDOCA_MAX_LIST];
     uint32_t place;
-    size_t list_size = FDOCA_LIST_SIZE(items);
-    uint32_t *list = malloc(list_size * sizeof *list);
-
-    if (list == NULL)
-        return unusable("out of memory");
-
     uint32_t number = fdoca_list(block->descriptor, block->descriptor_size, block->data, block->data_size, list,
-                                 list_size, &place);
-    int status = number == FDOCA_ACCEPTED ? print_rows(block, list) : refused("block", number, place);
+                                 FDOCA_MAX_LIST, &place);
 
-    if (status == ACCEPTED && id != 0)
-        status = print_sum(block, list, id);
-    free(list);
-    return status;
+    if (number != FDOCA_ACCEPTED)
+        return refused("block", number, place, "data");
+
+    int status = print_rows(block, list);
+
+    return status == ACCEPTED && id != 0 ? print_sum(block, list, id) : status;
 }
 
 static int show(const struct block *block, uint32_t id)
@@ -333,8 +322,8 @@ static int show(const struct block *block, uint32_t id)
     uint32_t number = fdoca_check(block->descriptor, block->descriptor_size, &place, &items);
 
     if (number != FDOCA_ACCEPTED)
-        return refused("descriptor", number, place);
-    return show_items(block, items, id);
+        return refused("descriptor", number, place, "descriptor");
+    return show_items(block, id);
 }
 
 static bool parse_id(const char *word, uint32_t *id)

@@ -32,7 +32,7 @@
 extern "C" {
 #endif
 
-/* The limits: bytes of a descriptor, bytes of a data block, items that a descriptor describes. */
+/* The limits: bytes of a descriptor, bytes of a data block, items of a block. */
 #define FDOCA_MAX_DESCRIPTOR 4096
 #define FDOCA_MAX_DATA 32768
 #define FDOCA_MAX_ITEMS 4096
@@ -53,8 +53,14 @@ extern "C" {
  * digits and fraction digits; 0 replaces nothing. A triplet's place is its offset in the descriptor, an item's is its offset
  * in the data. "Exception" is the standard's exception-id.
  *
+ * Rows to the end: a group of an RLO or of its CPT may have the repetition factor 0 if its three bytes are the descriptor's
+ * last. What it stands for then comes over and over, as often as the data have it, possibly never: the block ends where it
+ * would come again and no data are left. So descriptor and data together tell how many items the block has.
+ *
  * The reasons are tried in this order: 1; the triplets from left to right, each by rising number from 2 to 10, with 8, 9
- * and 10 taken group by group, and 21 right after 8; 11; 12; the items in order, by 13 to 15; 16; 17; 18; 20.
+ * and 10 taken group by group, 21 right after 8, and 22 right after 9; 11; 12; the items in order, by 13 to 15; 16; 17; 18;
+ * 20. With rows to the end 12 comes only after the items, 16 never, and an item past FDOCA_MAX_ITEMS is refused by 10 before
+ * it is measured.
  */
 enum fdoca_number {
     /* Nothing is wrong. Place: 0. */
@@ -86,17 +92,19 @@ enum fdoca_number {
     /* A group refers to an id that is not described yet (exception 03). Place: the group's triplet. */
     FDOCA_UNDEFINED_ID = 8,
 
-    /* An RLO's group has a repetition factor of 0, or takes elements of an RLO, a GDA or an SDA without extents. Place: the
-     * group's triplet. */
+    /* An RLO's group has a repetition factor of 0 and does not end the descriptor, or takes elements of an RLO, a GDA or an
+     * SDA without extents. Place: the group's triplet. */
     FDOCA_UNSUPPORTED_GROUP = 9,
 
-    /* An SDA, or an RLO up to a group, has over FDOCA_MAX_ITEMS items. Place: the SDA, or the group's triplet. */
+    /* An SDA, or an RLO up to a group, has over FDOCA_MAX_ITEMS items. Place: the SDA, or the group's triplet. Or, where
+     * fdoca_check accepts the descriptor, a block of rows to the end has. Place: the first item too many. */
     FDOCA_TOO_MANY_ITEMS = 10,
 
     /* The descriptor has no SDA, RLO or GDA. Place: the descriptor's length. */
     FDOCA_DESCRIPTOR_MISSING = 11,
 
-    /* The list has fewer than FDOCA_LIST_SIZE(n) entries for n items. Place: 0. */
+    /* The list has fewer than FDOCA_LIST_SIZE(n) entries for n items. With rows to the end n is what the data have, and all
+     * that is wrong with the block comes before. Place: 0. */
     FDOCA_LIST_TOO_SMALL = 12,
 
     /* The data end before an item does. Place: the item. */
@@ -127,7 +135,11 @@ enum fdoca_number {
 
     /* A GDA's group refers to an RLO, a GDA or an SDA with extents, or what replaces the SDA's field length or digits does
      * not fit the type; a float has no default here. Place: the group's triplet. */
-    FDOCA_COLUMN_MISFIT = 21
+    FDOCA_COLUMN_MISFIT = 21,
+
+    /* Rows to the end would take no bytes: every item of what is repeated is a fixed string of the field length 0 that is
+     * not nullable. Place: the group's triplet. */
+    FDOCA_ZERO_WIDTH_REPEAT = 22
 };
 
 /*
@@ -155,8 +167,8 @@ enum fdoca_type {
 /*
  * Checks a descriptor.
  *
- * items: how many items it describes.
- * Refuses by 1 to 11 and 21.
+ * items: how many items it describes; with rows to the end, how many there are before these rows, possibly 0.
+ * Refuses by 1 to 11, 21 and 22.
  */
 uint32_t fdoca_check(const uint8_t *descriptor, size_t descriptor_size, uint32_t *place, uint32_t *items);
 
@@ -171,7 +183,8 @@ uint32_t fdoca_check(const uint8_t *descriptor, size_t descriptor_size, uint32_t
  * and leaves every entry beyond as it is. An item ends where the next one starts, the last item at list[1]. On a refusal the
  * call leaves the whole list as it is.
  * list_size: how many entries of 32 bits the list has, at least FDOCA_LIST_SIZE(n). FDOCA_MAX_LIST is enough for any block.
- * Refuses by 1 to 16 and 21.
+ * What fdoca_check gives is n, but with rows to the end no call tells n before this one: have FDOCA_MAX_LIST entries then.
+ * Refuses by 1 to 16, 21 and 22.
  */
 uint32_t fdoca_list(const uint8_t *descriptor, size_t descriptor_size, const uint8_t *data, size_t data_size,
                     uint32_t *list, size_t list_size, uint32_t *place);
@@ -183,7 +196,7 @@ uint32_t fdoca_list(const uint8_t *descriptor, size_t descriptor_size, const uin
  * is_null: 1 if the item is null, else 0.
  * type_code: the code of its field type or of the nullable form (enum fdoca_type).
  * value: the length of its value in bytes, without what stands before the value and behind it; 0 if the item is null.
- * Refuses by 1 to 11, 13 to 17 and 21.
+ * Refuses by 1 to 11, 13 to 17, 21 and 22.
  */
 uint32_t fdoca_state(const uint8_t *descriptor, size_t descriptor_size, const uint8_t *data, size_t data_size,
                      uint32_t item, uint32_t *place, uint32_t *is_null, uint32_t *type_code, uint32_t *value);
@@ -195,7 +208,7 @@ uint32_t fdoca_state(const uint8_t *descriptor, size_t descriptor_size, const ui
  * offset: where the value begins; that of a null is right behind its null indicator.
  * length: how many bytes it has, 0 if the item is null.
  * Neither offset nor offset + length is over data_size, also on a refusal.
- * Refuses by 1 to 11, 13 to 17 and 21, as fdoca_state does.
+ * Refuses by 1 to 11, 13 to 17, 21 and 22, as fdoca_state does.
  */
 uint32_t fdoca_lend(const uint8_t *descriptor, size_t descriptor_size, const uint8_t *data, size_t data_size,
                     uint32_t item, uint32_t *place, uint32_t *offset, uint32_t *length);
@@ -206,7 +219,7 @@ uint32_t fdoca_lend(const uint8_t *descriptor, size_t descriptor_size, const uin
  * item: the item's number, from 0.
  * is_null: 1 if the item is null, else 0.
  * value: the item's value, 0 if it is null.
- * Refuses by 1 to 11, 13 to 18 and 21.
+ * Refuses by 1 to 11, 13 to 18, 21 and 22.
  */
 uint32_t fdoca_whole_number(const uint8_t *descriptor, size_t descriptor_size, const uint8_t *data, size_t data_size,
                             uint32_t item, uint32_t *place, uint32_t *is_null, int64_t *value);
@@ -220,7 +233,7 @@ uint32_t fdoca_whole_number(const uint8_t *descriptor, size_t descriptor_size, c
  * value: the whole number of its digits and sign, 0 if it is null. Minus zero is 0.
  * fraction_digits: how many of the digits, counted from the last, are a fraction; told of a null too. The quantity is the
  * value divided by 10 to the power of fraction_digits.
- * Refuses by 1 to 11, 13 to 18, 20 and 21.
+ * Refuses by 1 to 11, 13 to 18 and 20 to 22.
  */
 uint32_t fdoca_packed(const uint8_t *descriptor, size_t descriptor_size, const uint8_t *data, size_t data_size,
                       uint32_t item, uint32_t *place, uint32_t *is_null, int64_t *value, uint32_t *fraction_digits);
@@ -295,6 +308,8 @@ static inline const char *fdoca_text(uint32_t number)
         return "digit or sign not valid";
     case FDOCA_COLUMN_MISFIT:
         return "column does not fit what it refers to";
+    case FDOCA_ZERO_WIDTH_REPEAT:
+        return "rows to the end take no bytes";
     default:
         return "unknown number";
     }

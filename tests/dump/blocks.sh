@@ -57,11 +57,14 @@ triplet 6 12 "${S}0C7000810000000000000003"
 triplet 6 0 0C70B1480000000000000010
 triplet 7 12 "$S$S"
 triplet 8 12 "${S}0671A1B20001"
-triplet 9 12 "${S}0671A1B10000"
+triplet 9 12 "${S}0671A1B100000671A2B10001"
 triplet 9 18 "${S}0675D1B100020671A1D10101"
 triplet 10 18 "${S}0671A1B100400671A2A10041"
+triplet 10 18 "${S}0671A1B100400671A2A100410671A3A20000"
 triplet 21 12 "${S}0675D1B18000"
 triplet 21 18 "${S}0675D1B10002067F00B18000"
+triplet 22 12 0C70B10100000000000000000671A1B10000
+triplet 22 18 0C70B10100000000000000000671A1B10002067F00B10000
 nothing='no field and no row before its end,'
 refuses 11 0 "$nothing $(in_descriptor 0)" '' ''
 refuses 11 5 "$nothing $(in_descriptor 5)" 057E000000 61
@@ -78,6 +81,17 @@ item 13 0 "$many" 6162
 columns=0C7005A400000000000000020C700BC700000000000000080C7033820000000000017FFF0C75D00500020B0008330014
 block "$work/block" "$columns" FF000AD7A3703DE26540000004C6D9C5C4
 expect 'a row of columns' 0 $'items 3 bytes 17\n0 0 164 null\n1 1 199 8\n2 10 130 4' '' ./dump "$work/block"
+
+# rows to the end: none, three, one that is cut, and one item too many, of rows alone and behind 4,096 items of no bytes
+rows=${S}0671A1B10000
+block "$work/block" "$rows" ''
+expect 'no row' 0 'items 0 bytes 0' '' ./dump "$work/block"
+block "$work/block" "$rows" 006162638000414243
+expect 'three rows' 0 $'items 3 bytes 9\n0 0 129 3\n1 4 129 null\n2 5 129 3' '' ./dump "$work/block"
+item 13 5 "$rows" 00616263800041
+too_many='the first one too many starts at'
+refuses 10 4096 "$too_many $(in_data 4096 18)" "$rows" "$(printf '80%.0s' {1..4097})"
+refuses 10 0 "$too_many $(in_data 0 45)" 0C70B10100000000000000000671A1B100400671A2A10040"${S/B1/B2}"0971A3A20001B20000 80
 
 { bytes 0000000E000080000E70B10100000000000000081000; head -c 32768 /dev/zero; } >"$work/full"
 expect 'the largest block' 0 'items 4096 bytes 32768' '' sh -c "./dump $work/full >$work/listing && head -n 1 $work/listing"

@@ -1,6 +1,6 @@
 /*
- * Tests of the C calls: checks and lists, refusals of every call, limits. GDAs are in columns.c. The last line printed is
- * "N passed, M failed", and the exit status is 0 if none failed.
+ * Tests of the C calls: checks and lists, refusals of every call, limits. GDAs are in columns.c, rows to the end in rows.c.
+ * The last line printed is "N passed, M failed", and the exit status is 0 if none failed.
  */
 #include "support.h"
 
@@ -41,7 +41,7 @@ static const struct check_case checks[] = {
     {"id twice", S("01", "0003") S("01", "0004"), 7, 12, 0},
     {"reference to itself", "0671A1A10001", 8, 0, 0},
     {"later id", "0671A1B10001" S("01", "0003"), 8, 0, 0},
-    {"repetition 0", S("01", "0003") "0671A1B10000", 9, 12, 0},
+    {"repetition 0 before a row", S("01", "0003") "0671A1B10000" "0671A2B10001", 9, 12, 0},
     {"elements of an SDA without extents", S("01", "0003") "0671A1B10101", 9, 12, 0},
     {"65 times 64", S("01", "0003") "0671A1B10040" "0671A2A10041", 10, 18, 0},
     {"extent 4097", "0E70B10100000000000000011001", 10, 0, 0},
@@ -291,6 +291,7 @@ static const uint32_t numbers[] = {
     FDOCA_BAD_FILE,
     FDOCA_INVALID_DIGIT,
     FDOCA_COLUMN_MISFIT,
+    FDOCA_ZERO_WIDTH_REPEAT,
 };
 
 /* Each name has its number, and each number words of its own; those past the last share words that no other has. */
@@ -298,7 +299,7 @@ static void test_words(void)
 {
     const uint32_t unknown = COUNT(numbers);
 
-    expect(unknown == 22, "words", "22 numbers");
+    expect(unknown == 23, "words", "23 numbers");
     for (uint32_t n = 0; n < unknown; n++) {
         bool own = fdoca_text(n)[0] != '\0';
 

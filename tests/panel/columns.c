@@ -46,7 +46,7 @@ static const struct check_case refused[] = {
     {"later GDA", W "0671A1D10001" "0675D1B10002", 8, 12, 0},
     {"reference to id 0", W "0675D1000002", 8, 12, 0},
     {"elements of a GDA", W "0675D1B10002" "0671A1D10101", 9, 18, 0},
-    {"repetition 0 of a GDA", W "0675D1B10002" "0671A1D10000", 9, 18, 0},
+    {"repetition 0 of a GDA before a row", W "0675D1B10002" "0671A1D10000" "0671A2B10001", 9, 18, 0},
     {"too many items of a GDA in a row", W "0975D1B10002B10004" "0671A1D10040" "0671A2A10021", 10, 27, 0},
 };
 
@@ -88,15 +88,6 @@ static const struct check_case turns[] = {
 };
 
 /* ---- blocks, item by item */
-
-/* An item: its SDA's id, its start, and what the calls for one item give. The value is that of a number. */
-struct item {
-    uint32_t id, start, is_null, type_code, offset, length;
-    int64_t value;
-    uint32_t fraction_digits;
-};
-
-enum { MOST = 14 };
 
 struct block_case {
     const char *name;
@@ -222,45 +213,6 @@ static const struct block_case nests[] = {
       {0xB2, 5, 0, 0x24, 5, 2, 4, 0}}},
 };
 
-static uint32_t count_of(const struct item *items)
-{
-    uint32_t count = 0;
-
-    while (count < MOST && items[count].id != 0)
-        count++;
-    return count;
-}
-
-static void test_item(struct bytes d, struct bytes s, uint32_t k, const struct item *item, const char *block)
-{
-    uint32_t type = fdoca_plain_type(item->type_code);
-    char name[80];
-
-    snprintf(name, sizeof name, "%s, item %u", block, (unsigned)k);
-    expect(state_gives(d, s, k, 0, 0, item->is_null, item->type_code, item->length), "state", name);
-    expect(lend_gives(d, s, k, 0, 0, item->offset, item->length), "lend", name);
-    expect(is_whole(type) ? whole_gives(d, s, k, 0, 0, item->is_null, item->value)
-                          : whole_gives(d, s, k, 18, item->start, 0, 0),
-           "whole number", name);
-    expect(type == FDOCA_TYPE_PACKED
-               ? packed_gives(d, s, k, 0, 0, item->is_null, item->value, item->fraction_digits)
-               : packed_gives(d, s, k, 18, item->start, 0, 0, 0),
-           "packed decimal", name);
-}
-
-static void test_list(struct bytes d, struct bytes s, const struct item *items, uint32_t count, const char *name)
-{
-    uint32_t list[FDOCA_LIST_SIZE(MOST)] = {count, (uint32_t)s.size};
-
-    for (uint32_t k = 0; k < count; k++) {
-        list[2 + k] = items[k].start;
-        list[2 + count + k] = items[k].id;
-    }
-    expect(list_gives(d, s, FDOCA_LIST_SIZE(count), list, FDOCA_LIST_SIZE(count)), "list", name);
-    expect(list_gives(d, s, FDOCA_MAX_LIST, list, FDOCA_LIST_SIZE(count)), "list with room to spare", name);
-    expect(list_refuses(d, s, FDOCA_LIST_SIZE(count) - 1, 12, 0), "list one entry short", name);
-}
-
 /* Data that end before the block does are refused at the item that they cut, and data that go on at its end. */
 static void test_sizes(struct bytes d, const char *data, const struct item *items, uint32_t count, const char *name)
 {
@@ -290,7 +242,8 @@ static void test_blocks(const struct block_case *cases, size_t case_count)
         uint32_t count = count_of(c->items);
 
         expect(check_gives(d, 0, 0, count), "check of a block", c->name);
-        test_list(d, s, c->items, count, c->name);
+        expect(items_listed(d, s, c->items, count), "list", c->name);
+        expect(list_refuses(d, s, FDOCA_LIST_SIZE(count) - 1, 12, 0), "list one entry short", c->name);
         for (uint32_t k = 0; k < count; k++)
             test_item(d, s, k, &c->items[k], c->name);
         expect_refused(d, s, count, 17, 0, c->name);

@@ -15,13 +15,13 @@
 /* Bytes between protected pages: enough for any case, and for any list. */
 #define ROOM ((size_t)65536)
 
-/* How many entries more than it needs a large list has. */
+/* How many entries more than it needs a list may have. */
 #define MORE 7
 
 /* How many cases of one kind are told. */
 #define MOST_TOLD 3
 
-enum { LISTS = 4, ITEMS = 4, ITEM_CALLS = 4, ANSWERS = 1 + LISTS + ITEM_CALLS * ITEMS };
+enum { LISTS = 5, ITEMS = 4, ITEM_CALLS = 4, ANSWERS = 1 + LISTS + ITEM_CALLS * ITEMS };
 
 /* What is looked at: that a call makes no fault, and what it gives. */
 enum kind { CHECK, LIST, STATE, LEND, WHOLE, PACKED, SAME, KEPT, BEYOND, WITHIN, KINDS };
@@ -64,7 +64,7 @@ static uint8_t *descriptors, *blocks, *lists;
 
 static struct view at_end, at_beginning;
 static const char *placement;
-static unsigned long cases, large_descriptors, large_blocks, met[FDOCA_COLUMN_MISFIT + 1];
+static unsigned long cases, large_descriptors, large_blocks, met[FDOCA_ZERO_WIDTH_REPEAT + 1];
 
 /* What the next call is given, and what it gave. */
 static const uint8_t *d, *s;
@@ -147,29 +147,35 @@ static bool is_old(size_t from)
     return true;
 }
 
-/* Makes the list call with `list`, which is to have room for n items, and copies what it holds afterwards. */
-static void make_list(uint32_t n, struct answer *answer, uint32_t *copy)
+/* Makes the list call with a list of such a size, and copies what it holds afterwards. */
+static void make_list(bool ends, size_t size, struct answer *answer, uint32_t *copy)
 {
-    for (size_t i = 0; i < list_size; i++)
+    list_size = size;
+    list = (uint32_t *)(void *)(ends ? lists + ROOM - size * sizeof *list : lists);
+    for (size_t i = 0; i < size; i++)
         list[i] = old_entry(i);
     make(LIST, answer);
     if (got.number != FDOCA_ACCEPTED)
         tell(KEPT, is_old(0));
-    else if (list_size > FDOCA_LIST_SIZE(n))
-        tell(BEYOND, is_old(FDOCA_LIST_SIZE(n)));
-    memcpy(copy, list, list_size * sizeof *list);
+    memcpy(copy, list, size * sizeof *list);
 }
 
-static void make_lists(bool ends, uint32_t n, struct view *view)
+/* Makes the list call with the largest list, then with lists of about the size needed. Gives the count of items: that of the
+ * largest list, or what the descriptor describes if the block is refused. */
+static uint32_t make_lists(bool ends, uint32_t described, struct view *view)
 {
-    const size_t needed = FDOCA_LIST_SIZE(n), sizes[LISTS] = {needed, needed - 1, 0, needed + MORE};
+    make_list(ends, FDOCA_MAX_LIST, &view->answers[1], view->lists[0]);
+
+    uint32_t count = got.number == FDOCA_ACCEPTED ? list[0] : described, n = count <= FDOCA_MAX_ITEMS ? count : 0;
+    const size_t needed = FDOCA_LIST_SIZE(n), sizes[LISTS] = {FDOCA_MAX_LIST, needed, needed - 1, 0, needed + MORE};
 
     memcpy(view->list_sizes, sizes, sizeof sizes);
-    for (size_t i = 0; i < LISTS; i++) {
-        list_size = sizes[i];
-        list = (uint32_t *)(void *)(ends ? lists + ROOM - list_size * sizeof *list : lists);
-        make_list(n, &view->answers[1 + i], view->lists[i]);
+    for (size_t i = 1; i < LISTS; i++) {
+        make_list(ends, sizes[i], &view->answers[1 + i], view->lists[i]);
+        if (got.number == FDOCA_ACCEPTED && sizes[i] > needed)
+            tell(BEYOND, is_old(needed));
     }
+    return n;
 }
 
 static void make_item_calls(uint32_t number, struct answer *answers)
@@ -190,10 +196,9 @@ static void make_calls(bool ends, struct view *view)
     s = memcpy(ends ? blocks + ROOM - s_size : blocks, data, s_size);
     make(CHECK, &view->answers[0]);
 
-    uint32_t n = got.results[0] <= FDOCA_MAX_ITEMS ? got.results[0] : 0;
+    uint32_t n = make_lists(ends, got.results[0], view);
     const uint32_t numbers[ITEMS] = {0, n - 1, n, UINT32_MAX};
 
-    make_lists(ends, n, view);
     for (size_t i = 0; i < ITEMS; i++)
         make_item_calls(numbers[i], &view->answers[1 + LISTS + ITEM_CALLS * i]);
 }

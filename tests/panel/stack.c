@@ -13,6 +13,7 @@
 #define PAINT 0xA5
 
 static struct bytes descriptor, data;
+static uint32_t described; /* what the check counts */
 static uint32_t list[FDOCA_MAX_LIST];
 static bool answered; /* the last call gave what it has to give */
 
@@ -26,22 +27,30 @@ static void add(struct bytes *bytes, const uint8_t *triplet)
 static const uint8_t wholes[] = {12, 0x70, 1, 0x23, 0, 0, 0, 0, 0, 0, 0, 8};
 static const uint8_t decimals[] = {12, 0x70, 1, 0x30, 0, 0, 0, 0, 0, 0, 15, 2};
 
-/* What lies over the SDA of id 1, and where in its groups a row refers to the lower one. */
+/* What lies over the SDA of id 1, where in its groups a row refers to the lower one, and whether the last row does so to the
+ * end. */
 struct form {
     const char *name;
-    bool over_columns, lower_first;
+    bool over_columns, lower_first, to_the_end;
 };
 
 static const struct form forms[] = {
-    {"lower row last", false, false},
-    {"lower row first", false, true},
-    {"over columns, lower row last", true, false},
-    {"over columns, lower row first", true, true},
+    {"lower row last", false, false, false},
+    {"lower row first", false, true, false},
+    {"over columns, lower row last", true, false, false},
+    {"over columns, lower row first", true, true, false},
+    {"lower row last, to the end", false, false, true},
+    {"lower row first, to the end", false, true, true},
+    {"over columns, lower row last, to the end", true, false, true},
+    {"over columns, lower row first, to the end", true, true, true},
 };
 
+/* What the last row has: so many items, and the row before it so many times. That makes 4,096 items. */
+enum { MORE = 32, TIMES = 16 };
+
 /* An SDA of id 1 and 254 rows, each of them the row before it and one item more: 255 levels. Over columns, the first of the
- * rows is a GDA. The last row repeats them, to make 4,096 items. A row that is only another row once would be no level: the
- * library enters the other at once. */
+ * rows is a GDA. The last row repeats them, or has them as often as the data do. A row that is only another row once would be
+ * no level: the library enters the other at once. */
 static struct bytes nest(const uint8_t *sda, const struct form *form)
 {
     struct bytes bytes = {room(FDOCA_MAX_DESCRIPTOR), 0};
@@ -50,10 +59,12 @@ static struct bytes nest(const uint8_t *sda, const struct form *form)
     add(&bytes, sda);
     for (unsigned id = 2; id <= 255; id++) {
         uint8_t own = (uint8_t)id, lower = (uint8_t)(id - 1);
-        uint8_t times = id < 255 ? 1 : 16, more = id < 255 ? 1 : 32;
+        uint8_t times = id < 255 ? 1 : TIMES, more = id < 255 ? 1 : MORE;
 
         if (id == 2 && form->over_columns)
             add(&bytes, (const uint8_t[]){9, 0x75, own, 1, given[0], given[1], 1, given[0], given[1]});
+        else if (id == 255 && form->to_the_end)
+            add(&bytes, (const uint8_t[]){9, 0x71, own, 1, 0, more, lower, 0, 0});
         else if (form->lower_first)
             add(&bytes, (const uint8_t[]){9, 0x71, own, lower, 0, times, 1, 0, more});
         else
@@ -64,7 +75,7 @@ static struct bytes nest(const uint8_t *sda, const struct form *form)
 
 static void check(void)
 {
-    answered = check_gives(descriptor, 0, 0, FDOCA_MAX_ITEMS);
+    answered = check_gives(descriptor, 0, 0, described);
 }
 
 static void list_all(void)
@@ -162,6 +173,7 @@ static void test_call(const struct call *call, const struct form *form, uint8_t 
     struct job job = {call->make, spacious, false, 0};
 
     descriptor = nest(call->sda, form);
+    described = form->to_the_end ? MORE : FDOCA_MAX_ITEMS;
 
     size_t thread = on_thread(&job, SPACIOUS);
 

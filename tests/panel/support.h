@@ -195,6 +195,55 @@ static inline void expect_refused(struct bytes d, struct bytes s, uint32_t item,
     expect(packed_gives(d, s, item, number, place, 0, 0, 0), "packed decimal refused", name);
 }
 
+/* An item: its SDA's id, its start, and what the calls for one item give. The value is that of a number. */
+struct item {
+    uint32_t id, start, is_null, type_code, offset, length;
+    int64_t value;
+    uint32_t fraction_digits;
+};
+
+/* The most items of a block that is written out. */
+enum { MOST = 14 };
+
+static inline uint32_t count_of(const struct item *items)
+{
+    uint32_t count = 0;
+
+    while (count < MOST && items[count].id != 0)
+        count++;
+    return count;
+}
+
+static inline void test_item(struct bytes d, struct bytes s, uint32_t k, const struct item *item, const char *block)
+{
+    uint32_t type = fdoca_plain_type(item->type_code);
+    char name[80];
+
+    snprintf(name, sizeof name, "%s, item %u", block, (unsigned)k);
+    expect(state_gives(d, s, k, 0, 0, item->is_null, item->type_code, item->length), "state", name);
+    expect(lend_gives(d, s, k, 0, 0, item->offset, item->length), "lend", name);
+    expect(is_whole(type) ? whole_gives(d, s, k, 0, 0, item->is_null, item->value)
+                          : whole_gives(d, s, k, 18, item->start, 0, 0),
+           "whole number", name);
+    expect(type == FDOCA_TYPE_PACKED
+               ? packed_gives(d, s, k, 0, 0, item->is_null, item->value, item->fraction_digits)
+               : packed_gives(d, s, k, 18, item->start, 0, 0, 0),
+           "packed decimal", name);
+}
+
+/* The list of so many items that take all of the data is given, whatever room there is beyond it. */
+static inline bool items_listed(struct bytes d, struct bytes s, const struct item *items, uint32_t count)
+{
+    uint32_t list[FDOCA_LIST_SIZE(MOST)] = {count, (uint32_t)s.size};
+
+    for (uint32_t k = 0; k < count; k++) {
+        list[2 + k] = items[k].start;
+        list[2 + count + k] = items[k].id;
+    }
+    return list_gives(d, s, FDOCA_LIST_SIZE(count), list, FDOCA_LIST_SIZE(count)) &&
+           list_gives(d, s, FDOCA_MAX_LIST, list, FDOCA_LIST_SIZE(count));
+}
+
 /* A descriptor: number, place and items of the check. */
 struct check_case {
     const char *name;
