@@ -3,9 +3,9 @@
 mod descriptor;
 mod item;
 
-use library::{Refusal, State, MAX_DATA};
+use library::{Refusal, State, MAX_DATA, MAX_ITEMS};
 
-use descriptor::Descriptor;
+use descriptor::{Descriptor, Fields};
 use item::{Field, Item};
 
 fn refusal(number: u32, place: usize) -> Refusal {
@@ -18,7 +18,7 @@ fn refusal(number: u32, place: usize) -> Refusal {
 #[derive(Default)]
 pub struct Reader {
     descriptor: Descriptor,
-    fields: Vec<Field>,
+    fields: Fields,
     starts: Vec<u32>,
 }
 
@@ -35,18 +35,24 @@ impl Reader {
         list: &mut [u32],
     ) -> Result<(), Refusal> {
         let count = self.check_both(descriptor, data)?;
-        let list = list.get_mut(..2 + 2 * count).ok_or(refusal(12, 0))?;
+        if !self.descriptor.is_open_ended() && list.len() < 2 + 2 * count {
+            return Err(refusal(12, 0));
+        }
         self.descriptor.unfold(&mut self.fields);
         self.starts.clear();
         let starts = &mut self.starts;
         walk(&self.fields, data, |_, start, _| starts.push(start as u32))?;
 
-        list[0] = count as u32;
+        let found = starts.len();
+        let list = list.get_mut(..2 + 2 * found).ok_or(refusal(12, 0))?;
+        list[0] = found as u32;
         list[1] = data.len() as u32;
-        let (list_starts, list_ids) = list[2..].split_at_mut(count);
+        let (list_starts, list_ids) = list[2..].split_at_mut(found);
         list_starts.copy_from_slice(starts);
-        for (id, field) in list_ids.iter_mut().zip(&self.fields) {
-            *id = field.id.into();
+        let (once, repeated) = list_ids.split_at_mut(count);
+        write_ids(once, &self.fields.once);
+        for row in repeated.chunks_mut(self.fields.repeated.len().max(1)) {
+            write_ids(row, &self.fields.repeated);
         }
         Ok(())
     }
@@ -77,23 +83,42 @@ impl Reader {
     }
 }
 
-/// Measures the item of each field, and notes field, start and item.
+fn write_ids(ids: &mut [u32], fields: &[Field]) {
+    for (id, field) in ids.iter_mut().zip(fields) {
+        *id = field.id.into();
+    }
+}
+
+/// Measures the item of each field, then of the repeated fields over and over as long as
+/// there are data, and notes field, start and item.
 fn walk(
-    fields: &[Field],
+    fields: &Fields,
     data: &[u8],
     mut note: impl FnMut(&Field, usize, Item),
 ) -> Result<(), Refusal> {
+    let Fields { once, repeated } = fields;
     let mut rest = data;
-    for field in fields {
-        let start = data.len() - rest.len();
-        let item = field
-            .measure(rest)
-            .map_err(|number| refusal(number, start))?;
-        rest = &rest[item.length..];
-        note(field, start, item);
-    }
-    match rest {
-        [] => Ok(()),
-        _ => Err(refusal(16, data.len() - rest.len())),
+    let mut pass = &once[..];
+    let mut is_cut = false;
+    let mut room = MAX_ITEMS;
+    loop {
+        for field in pass {
+            let start = data.len() - rest.len();
+            let item = field
+                .measure(rest)
+                .map_err(|number| refusal(number, start))?;
+            rest = &rest[item.length..];
+            note(field, start, item);
+        }
+        let place = data.len() - rest.len();
+        match (rest, &repeated[..]) {
+            _ if is_cut => return Err(refusal(10, place)),
+            ([], _) => return Ok(()),
+            (_, []) => return Err(refusal(16, place)),
+            _ => {}
+        }
+        room -= pass.len();
+        is_cut = room < repeated.len();
+        pass = if is_cut { &repeated[..room] } else { repeated };
     }
 }

@@ -2,12 +2,14 @@
 
 use library::generate::{full_descriptor, Random};
 use library::triplets::{column, layout, row, sda};
-use library::MAX_DESCRIPTOR;
+use library::{MAX_DESCRIPTOR, MAX_ITEMS};
 
 pub struct Input {
     pub name: &'static str,
     pub descriptor: Vec<u8>,
     pub data: Vec<u8>,
+    /// How many items a call walks over.
+    pub items: u32,
 }
 
 pub fn inputs() -> Vec<Input> {
@@ -18,6 +20,8 @@ pub fn inputs() -> Vec<Input> {
             rows_by_a_group(),
             mixed_rows(ROWS),
         ),
+        input("rows to the end", rows_to_the_end(), mixed_rows(ROWS)),
+        long_row(),
         input(
             "fixed integers",
             sda(1, 0x23, 0, 8, &[4096]),
@@ -36,11 +40,16 @@ pub fn inputs() -> Vec<Input> {
     ]
 }
 
+/// The items are those of the list, or those described where the block is refused.
 fn input(name: &'static str, descriptor: Vec<u8>, data: Vec<u8>) -> Input {
+    let mut list = vec![0; 2 + 2 * MAX_ITEMS];
+    let listed = library::list(&descriptor, &data, &mut list).map(|()| list[0]);
+    let items = listed.or_else(|_| library::check(&descriptor));
     Input {
         name,
         descriptor,
         data,
+        items: items.unwrap_or(0),
     }
 }
 
@@ -75,13 +84,22 @@ const COLUMNS: [(u8, u8, u16); 20] = [
 ];
 
 fn rows_of_columns() -> Vec<u8> {
+    repeated_rows(ROWS as u8)
+}
+
+/// The same rows, as many as the data have.
+fn rows_to_the_end() -> Vec<u8> {
+    repeated_rows(0)
+}
+
+fn repeated_rows(factor: u8) -> Vec<u8> {
     let mut descriptor = Vec::new();
     for (id, (type_code, mode, length)) in (1..).zip(COLUMNS) {
         descriptor.extend(sda(id, type_code, mode, length, &[]));
     }
     let groups: Vec<[u8; 3]> = (1..=20).map(|id| [id, 0, 1]).collect();
     descriptor.extend(row(21, &groups));
-    descriptor.extend(row(22, &[[21, 0, ROWS as u8]]));
+    descriptor.extend(row(22, &[[21, 0, factor]]));
     descriptor
 }
 
@@ -193,6 +211,20 @@ fn wide_row() -> Input {
 
 fn two_items() -> Vec<u8> {
     [sda(0xB1, 0x81, 0, 3, &[]), row(0xA1, &[[0xB1, 0, 2]])].concat()
+}
+
+/// Rows to the end of 255 times 4,096 items, and data that end in the first of them.
+fn long_row() -> Input {
+    let items = 1000;
+    let descriptor = [sda(1, 0x01, 0, 1, &[1, 4096]), row(2, &[[1, 255, 0]])].concat();
+    Input {
+        items,
+        ..input(
+            "1,000 of 1,044,480 items",
+            descriptor,
+            bytes(items as usize),
+        )
+    }
 }
 
 /// Rows whose last item lacks its last byte.

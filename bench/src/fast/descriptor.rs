@@ -19,6 +19,7 @@ const MISSING_REFERENCE: u32 = 8;
 const NOT_CARRIED: u32 = 9;
 const TOO_MANY_ITEMS: u32 = 10;
 const COLUMN_MISFIT: u32 = 21;
+const ENDLESS: u32 = 22;
 
 /// The lengths of floats whose field length is none of 4, 8 and 16.
 const HEXADECIMAL_DEFAULT: u16 = 8;
@@ -36,6 +37,16 @@ pub struct Descriptor {
     columns: Vec<Field>,
     /// The last triplet's id if it is an RLO or a GDA, which CPTs may continue.
     open: Option<u8>,
+    /// The group that comes as often as there are data for it.
+    repeated: Option<Group>,
+}
+
+/// The fields of a descriptor: one for each item, and those that come over and over
+/// behind them as long as there are data.
+#[derive(Default)]
+pub struct Fields {
+    pub once: Vec<Field>,
+    pub repeated: Vec<Field>,
 }
 
 #[derive(Clone, Copy)]
@@ -74,6 +85,7 @@ impl Default for Descriptor {
             groups: Vec::new(),
             columns: Vec::new(),
             open: None,
+            repeated: None,
         }
     }
 }
@@ -88,13 +100,14 @@ impl Descriptor {
         self.groups.clear();
         self.columns.clear();
         self.open = None;
+        self.repeated = None;
         let mut rest = descriptor;
         while let [length, ..] = *rest {
             let place = descriptor.len() - rest.len();
             let (triplet, behind) = rest
                 .split_at_checked(length.into())
                 .ok_or(refusal(TORN_TRIPLET, place))?;
-            self.read(triplet, place)
+            self.read(triplet, place, behind.is_empty())
                 .map_err(|number| refusal(number, place))?;
             rest = behind;
         }
@@ -104,22 +117,35 @@ impl Descriptor {
         }
     }
 
-    /// The count of an accepted descriptor.
+    /// The count of an accepted descriptor, without a group that is repeated to the end.
     pub fn count(&self) -> u32 {
         self.triplets.last().map_or(0, |last| last.count.into())
     }
 
-    /// The fields of an accepted descriptor, one for each item.
-    pub fn unfold(&self, fields: &mut Vec<Field>) {
-        fields.clear();
+    /// Whether the data tell how many items there are.
+    pub fn is_open_ended(&self) -> bool {
+        self.repeated.is_some()
+    }
+
+    /// The fields of an accepted descriptor.
+    pub fn unfold(&self, Fields { once, repeated }: &mut Fields) {
+        once.clear();
         if let Some(last) = self.triplets.last() {
-            fields.reserve(last.count.into());
+            once.reserve(last.count.into());
             match last.contents {
-                Contents::Sda { field, .. } => fields.resize(last.count.into(), field),
-                Contents::Rlo { first, end } => self.unfold_groups(first, end, fields),
-                Contents::Gda { first, end } => fields.extend(self.columns(first, end)),
+                Contents::Sda { field, .. } => once.resize(last.count.into(), field),
+                Contents::Rlo { first, end } => self.unfold_groups(first, end, once),
+                Contents::Gda { first, end } => once.extend(self.columns(first, end)),
             }
         }
+        repeated.clear();
+        if let Some(group) = &self.repeated {
+            self.unfold_group(group, repeated);
+        }
+    }
+
+    fn groups(&self, first: u16, end: u16) -> &[Group] {
+        &self.groups[first.into()..end.into()]
     }
 
     fn columns(&self, first: u16, end: u16) -> &[Field] {
@@ -127,33 +153,38 @@ impl Descriptor {
     }
 
     fn unfold_groups(&self, first: u16, end: u16, fields: &mut Vec<Field>) {
-        for group in &self.groups[first.into()..end.into()] {
-            let from = fields.len();
-            match self.triplets[usize::from(group.triplet)].contents {
-                Contents::Sda { field, .. } => {
-                    let items = usize::from(group.items) * usize::from(group.factor);
-                    fields.resize(from + items, field);
-                    continue;
-                }
-                Contents::Rlo { first, end } => self.unfold_groups(first, end, fields),
-                Contents::Gda { first, end } => fields.extend(self.columns(first, end)),
-            }
-            let to = fields.len();
-            for _ in 1..group.factor {
-                fields.extend_from_within(from..to);
-            }
+        for group in self.groups(first, end) {
+            self.unfold_group(group, fields);
         }
     }
 
-    fn read(&mut self, triplet: &[u8], place: usize) -> Result<(), u32> {
+    #[inline(always)]
+    fn unfold_group(&self, group: &Group, fields: &mut Vec<Field>) {
+        let from = fields.len();
+        match self.triplets[usize::from(group.triplet)].contents {
+            Contents::Sda { field, .. } => {
+                let items = usize::from(group.items) * usize::from(group.factor);
+                fields.resize(from + items, field);
+                return;
+            }
+            Contents::Rlo { first, end } => self.unfold_groups(first, end, fields),
+            Contents::Gda { first, end } => fields.extend(self.columns(first, end)),
+        }
+        let to = fields.len();
+        for _ in 1..group.factor {
+            fields.extend_from_within(from..to);
+        }
+    }
+
+    fn read(&mut self, triplet: &[u8], place: usize, is_last: bool) -> Result<(), u32> {
         let [_, construct, body @ ..] = triplet else {
             return Err(TORN_TRIPLET);
         };
         match construct {
             0x70 => self.sda(body),
-            0x71 => self.rlo(body),
+            0x71 => self.rlo(body, is_last),
             0x75 => self.gda(body),
-            0x7F => self.cpt(body),
+            0x7F => self.cpt(body, is_last),
             0x7E if place == 0 => isd(body),
             0x7E => Err(OUT_OF_SEQUENCE),
             _ => Err(UNKNOWN_CONSTRUCT),
@@ -195,11 +226,11 @@ impl Descriptor {
         Ok(())
     }
 
-    fn rlo(&mut self, body: &[u8]) -> Result<(), u32> {
+    fn rlo(&mut self, body: &[u8], is_last: bool) -> Result<(), u32> {
         self.close();
         let (id, groups) = self.named_groups(body)?;
         let first = self.groups.len() as u16;
-        let count = self.add_groups(0, groups)?;
+        let count = self.add_groups(0, groups, is_last)?;
         self.triplets.push(Triplet {
             count,
             contents: Contents::Rlo {
@@ -239,7 +270,7 @@ impl Descriptor {
         Ok((id, groups))
     }
 
-    fn cpt(&mut self, body: &[u8]) -> Result<(), u32> {
+    fn cpt(&mut self, body: &[u8], is_last: bool) -> Result<(), u32> {
         if self.open.is_none() {
             return Err(OUT_OF_SEQUENCE);
         }
@@ -252,7 +283,10 @@ impl Descriptor {
             Some(Contents::Gda { .. }) => {
                 (self.add_columns(before, groups)?, self.columns.len() as u16)
             }
-            _ => (self.add_groups(before, groups)?, self.groups.len() as u16),
+            _ => {
+                let total = self.add_groups(before, groups, is_last)?;
+                (total, self.groups.len() as u16)
+            }
         };
         if let Some(Triplet {
             count,
@@ -284,22 +318,21 @@ impl Descriptor {
         self.places[usize::from(id)] = place.unwrap_or(self.triplets.len() as u8);
     }
 
-    /// Adds an RLO's or its CPT's groups, and gives the row's count up to them.
-    fn add_groups(&mut self, count: u16, groups: &[u8]) -> Result<u16, u32> {
+    /// Adds an RLO's or its CPT's groups, and gives the row's count up to them. The last
+    /// triplet's last group is repeated to the end of the data if its factor is 0.
+    fn add_groups(&mut self, count: u16, groups: &[u8], is_last: bool) -> Result<u16, u32> {
+        let (groups, repeated) = match groups.split_last_chunk() {
+            Some((before, &[id, taken, 0])) if is_last => (before, Some((id, taken))),
+            _ => (groups, None),
+        };
         let mut total = u64::from(count);
         for group in groups.chunks_exact(3) {
             let (id, taken, factor) = (group[0], group[1], group[2]);
             let triplet = self.place(id)?;
-            let lower = self.triplets[usize::from(triplet)];
-            let items = match lower.contents {
-                _ if factor == 0 => return Err(NOT_CARRIED),
-                _ if taken == 0 => u64::from(lower.count),
-                Contents::Sda {
-                    per_element: Some(count),
-                    ..
-                } => u64::from(taken) * u64::from(count.get()),
-                _ => return Err(NOT_CARRIED),
-            };
+            if factor == 0 {
+                return Err(NOT_CARRIED);
+            }
+            let items = self.items(triplet, taken)?;
             total += u64::from(factor) * items;
             if total > MAX_ITEMS {
                 return Err(TOO_MANY_ITEMS);
@@ -310,7 +343,51 @@ impl Descriptor {
                 items: items as u16,
             });
         }
+        if let Some((id, taken)) = repeated {
+            self.repeated = Some(self.repeated_group(id, taken)?);
+        }
         Ok(total as u16)
+    }
+
+    /// A group that is repeated to the end. Its items are counted up to the first that is
+    /// one too many in any block.
+    fn repeated_group(&self, id: u8, taken: u8) -> Result<Group, u32> {
+        let triplet = self.place(id)?;
+        let items = self.items(triplet, taken)?;
+        if self.is_empty(triplet) {
+            return Err(ENDLESS);
+        }
+        Ok(Group {
+            triplet,
+            factor: 1,
+            items: items.min(MAX_ITEMS + 1) as u16,
+        })
+    }
+
+    /// The items of a triplet of which so many elements are taken.
+    #[inline(always)]
+    fn items(&self, triplet: u8, taken: u8) -> Result<u64, u32> {
+        let lower = self.triplets[usize::from(triplet)];
+        match lower.contents {
+            _ if taken == 0 => Ok(lower.count.into()),
+            Contents::Sda {
+                per_element: Some(count),
+                ..
+            } => Ok(u64::from(taken) * u64::from(count.get())),
+            _ => Err(NOT_CARRIED),
+        }
+    }
+
+    /// Whether no item of a triplet can have a byte.
+    fn is_empty(&self, triplet: u8) -> bool {
+        match self.triplets[usize::from(triplet)].contents {
+            Contents::Sda { field, .. } => field.is_empty(),
+            Contents::Rlo { first, end } => {
+                let mut groups = self.groups(first, end).iter();
+                groups.all(|group| self.is_empty(group.triplet))
+            }
+            Contents::Gda { first, end } => self.columns(first, end).iter().all(Field::is_empty),
+        }
     }
 
     /// Adds a GDA's or its CPT's groups, and gives the GDA's count up to them.

@@ -38,6 +38,11 @@ const BAD_COUNT: u32 = 14;
 const NO_END: u32 = 15;
 
 impl Field {
+    /// Whether every item is a fixed string without bytes.
+    pub fn is_empty(&self) -> bool {
+        self.type_code == 0x01 && self.limit == 0
+    }
+
     #[inline(always)]
     pub fn measure(&self, bytes: &[u8]) -> Result<Item, u32> {
         let body = match bytes {
