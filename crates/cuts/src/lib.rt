@@ -66,10 +66,11 @@ pub fn entries(x: Examined) -> usize
     requires { ⌜ x .items ≤ 4096 ⌝ }
     ensures { λ r. ⌜ (r ≡ entriesFor x) × (r ≤ 4096) ⌝ }
 {
+    let items = x.items as usize;
     if x.rows {
         return MOST;
     }
-    x.items as usize
+    items
 }
 
 // The items of the data of an accepted descriptor: how many, with their marks in the plan, or the refusal.
