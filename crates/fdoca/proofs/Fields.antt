@@ -383,7 +383,7 @@ good-rows-from (suc room) p rows fs s a g =
 good-walk-by : (fs : List Field) (o : Option (List Field)) (s : List ℕ) → AllGood fs → GoodRepeated o → IfOk GoodNotes (walkBy fs o s)
 unfolding walkBy walkRows
 good-walk-by fs none s g r = good-walk fs s g
-good-walk-by fs (some rows) s g r = good-rows-from C.maxItems 0 rows fs s r g
+good-walk-by fs (some rows) s g r = good-rows-from _ 0 rows fs s r g
 
 nth-good : (ns : List Note) (k : ℕ) → GoodNotes ns → IfOk GoodNote (the (getElem? ns k) 17 0)
 nth-good [] k nil = none-owed
