@@ -16,7 +16,7 @@ use Rattle.fdoca.specs.Item.{Field}
 use Rattle.fdoca.specs.Walk.{Note, walkBy}
 use Rattle.fdoca.specs.Check.{maxDescriptor, check}
 use Rattle.fdoca.specs.Unfolding.{unfolded, repeated}
-use Rattle.fdoca.specs.Calls.{maxData, oversize, itemList, small, list, itemAt, valueOf, wholeOf, signed, wholeNumber}
+use Rattle.fdoca.specs.Calls.{maxData, oversize, small, list, itemAt, valueOf, wholeOf, signed, wholeNumber}
 use Rattle.fdoca.specs.Reasons as R
 use Rattle.fdoca.specs.Reasons.{here, HasType, StartsAt, OfItems, item, surplus, Uses, Unfolds, OfDescriptor, nothing-described, OfData, items, OfBlock, descriptor, data-of, OfList, small-list, small-for-rows, OfState, no-such-item, not-in-rows, OfWholeNumber, state, wrong-kind, Earlier, First}
 use Rattle.fdoca.proofs.Results.{ok-bind, ok-reject}
@@ -186,16 +186,14 @@ module _ (d s old : List ℕ) where
   unfolding list
   list-told =
       told-as to-list of-list
-      (described-then d s
-      (λ n. reject (not (isSome (repeated d)) && small (length old) n) 12 0
-      >> (walkBy (unfolded d) (repeated d) s >>= (λ ns. reject (small (length old) (length ns)) 12 0 >> ok (itemList (length ns) (length s) ns old))))
+      (described-then d s _
       (late-either (λ t m p x. wider 4 8 (omega arith) (omega arith) (once-from t m p x)) (late-either late-data (λ t m p x. wider 4 8 (omega arith) (omega arith) (once-from t m p x))))
-      (λ n e. told-tested (not (isSome (repeated d)) && small (length old) n) 12 0
+      (λ n e. told-tested _ 12 0
       (precedes-either (by-turns 4 4 5 6 (omega arith) once-from (λ t m p x. data-from x)) (by-turns 4 4 7 7 (omega arith) once-from once-from))
       (small-yes n e (repeated d) refl) (small-no n e)
-      (λ h. told-then (walkBy (unfolded d) (repeated d) s) (λ ns. reject (small (length old) (length ns)) 12 0 >> ok (itemList (length ns) (length s) ns old))
+      (λ h. told-then _ _
       (by-turns 5 6 7 7 (omega arith) (λ t m p x. data-from x) once-from) (data-told d n e s)
-      (λ ns w. told-before (reject (small (length old) (length ns)) 12 0) (itemList (length ns) (length s) ns old) (rows-small n e ns w h)))))
+      (λ ns w. told-before _ _ (rows-small n e ns w h)))))
 
 -- THE STATE CALL, and lending
 record None17 (d s : List ℕ) (k : ℕ) : Type 0 where

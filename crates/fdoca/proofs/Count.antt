@@ -89,8 +89,8 @@ unfolding C.addGroups U.addFields
 add-groups kind last p ds l [] = holds refl
 add-groups kind last p ds l (g ∷ gs) =
     rw (lookup-entries (g .ref) ds)
-    (bind-all (C.addGroup kind (last && isEmpty gs) p (length l) g (entry? (lookup (g .ref) ds)))
-    (add-group kind (last && isEmpty gs) p (length l) g (lookup (g .ref) ds))
+    (bind-all _
+    (add-group kind _ p (length l) g (lookup (g .ref) ds))
     (λ m e. let e′ : m ≡ length (l ++ U.groupFields kind ds g) = e ∙ sym (length-append l (U.groupFields kind ds g)) in
     rw e′ (add-groups kind last p ds (l ++ U.groupFields kind ds g) gs)))
 

@@ -159,8 +159,8 @@ unfolding C.addGroups addFields
 good-add kind last p n ds l [] g a = holds a
 good-add kind last p n ds l (x ∷ gs) g a =
     rw (lookup-entries (x .ref) ds)
-    (bind-all (C.addGroup kind (last && isEmpty gs) p n x (entry? (lookup (x .ref) ds)))
-    (good-group kind (last && isEmpty gs) p n x (lookup (x .ref) ds) (good-found (x .ref) ds g))
+    (bind-all _
+    (good-group kind _ p n x (lookup (x .ref) ds) (good-found (x .ref) ds g))
     (λ m b. good-add kind last p m ds (l ++ groupFields kind ds x) gs g (good-append a b)))
 
 -- the parts of a good SDA

@@ -3,7 +3,7 @@
 use mathlib.Core.Path.{_≡_}
 use Prim.Native.Nat.{ℕ, _+_, _≤_}
 use native.Mathlib.Omega.{arith}
-use mathlib.Core.Bool.{Bool, true, false, not, _&&_}
+use mathlib.Core.Bool.{Bool, true, false, not}
 use mathlib.Core.List.{List, [], _∷_}
 use mathlib.Core.Option.{Option, none, some}
 use lib.Dec.{ltb, eqb}
@@ -47,7 +47,7 @@ limited-groups : (kind : Kind) (last : Bool) (p : ℕ) (es : List (ℕ × Entry)
 unfolding addGroups
 limited-groups kind last p es n [] h = holds h
 limited-groups kind last p es n (g ∷ gs) h =
-    bind-all (addGroup kind (last && isEmpty gs) p n g (lookup (g .ref) es)) (limited-group kind (last && isEmpty gs) p n g (lookup (g .ref) es))
+    bind-all _ (limited-group kind _ p n g (lookup (g .ref) es))
     (λ m k. limited-groups kind last p es m gs k)
 
 limited-SDA : (es : List (ℕ × Entry)) (p : ℕ) (t : List ℕ) → Bounded es → IfOk Limited (checkSDA es p t)

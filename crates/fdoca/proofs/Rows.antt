@@ -11,7 +11,6 @@ use lib.Seq.{length-take-le}
 use Rattle.fdoca.specs.Basics.{isEmpty, repeat, Result, refuse, ok, _>>=_, _>>_}
 use Rattle.fdoca.specs.Item.{Field, measure}
 use Rattle.fdoca.specs.Walk.{Note, itemLength, Cut, noteOf, with, cutFrom, walk, rowsFrom, walkRows}
-use Rattle.fdoca.specs.Check.{maxItems}
 use Rattle.fdoca.specs.Reasons.{StartsAt, withPasses, ComesTo}
 use Rattle.fdoca.proofs.Tests.{by-order}
 use Rattle.fdoca.proofs.Results.{ok-bind}
@@ -311,11 +310,10 @@ module _ (before rows : List Field) (s : List ℕ) where
             whole : (room′ : ℕ) → room ≡ length rows + room′ → Outcome before rows s (behind room c)
             whole room′ o = rw o (next-pass i room′ c (omega arith) e (rw q (omega arith)) (λ d y z. next room′ d (omega (arith, has-field)) y z))
 
-    -- The walk over rows to the end comes to one of the three.
-    pub outcome : length before ≤ 4096 → Outcome before rows s (walkRows before rows s)
-    unfolding walkRows
-    outcome l =
-        let e : maxItems ≡ length before + (4096 - length before) = omega arith in
+    -- With room for 4,096 items, the walk over rows to the end comes to one of the three.
+    with-room : (room : ℕ) → room ≡ 4096 → length before ≤ 4096 → Outcome before rows s (rowsFrom room 0 rows before s)
+    with-room room q l =
+        let e : room ≡ length before + (4096 - length before) = omega arith in
         rw (e, rows-through rows before (4096 - length before) 0 s) (go (cutFrom 0 before s) refl)
       where
         go : (x : Result Cut) → cutFrom 0 before s ≡ x → Outcome before rows s (x >>= (λ c. behind (4096 - length before) c))
@@ -324,3 +322,7 @@ module _ (before rows : List Field) (s : List ℕ) where
             spoiled {m = m} {p = q} 0 (more-fields [] refl t) (omega (arith, stops-among t))
             (λ j xs b. omega (arith, stops-among t, length-append before (repeat j rows)))
         go (ok c) y = from-pass 4096 0 (4096 - length before) c (omega arith) (rw (no-pass before rows) (omega arith)) (rw (no-pass before rows) y)
+
+    pub outcome : length before ≤ 4096 → Outcome before rows s (walkRows before rows s)
+    unfolding walkRows
+    outcome l = with-room _ (omega arith) l

@@ -99,7 +99,7 @@ unfolding C.addGroups addFields
 groups-as kind last p n ds l [] = holds no-more
 groups-as kind last p n ds l (g ∷ gs) =
     rw (lookup-entries (g .ref) ds)
-    (bind-all (C.addGroup kind (last && isEmpty gs) p n g (entry? (lookup (g .ref) ds))) (group-as kind (last && isEmpty gs) p n g ds (lookup (g .ref) ds) refl)
+    (bind-all _ (group-as kind _ p n g ds (lookup (g .ref) ds) refl)
     (λ m r. for-all (λ x h. added r h) (groups-as kind last p m ds (l ++ groupFields kind ds g) gs)))
   where
     added : (r : Referred kind ds g) → Adds kind ds (l ++ groupFields kind ds g) gs (addFields kind ds (l ++ groupFields kind ds g) gs)
