@@ -118,7 +118,7 @@ module _ (d x : List ℕ) (i : ℕ) (f : Found) (w : FoundAs (itemAt d x i) x f)
         digits-are : digitsIn (f .value) part ≡ sized .p
         digits-are = omega (arith, value-long, sized .odd-told)
 
-        pub is-packing : Packing x (f .start + f .prefix) (f .value) part (f .start)
+        pub is-packing : Packing x (f .start + f .lead) (f .value) part (f .start)
         is-packing =
             record {
               inside = w .inside;
@@ -129,10 +129,10 @@ module _ (d x : List ℕ) (i : ℕ) (f : Found) (w : FoundAs (itemAt d x i) x f)
               place = omega (arith, w .small);
             }
 
-        pub packed-value : (r : Decimal) → r ≡ decimalAnswer (readAt x (f .start + f .prefix) (f .value) part (f .start)) → r ≡ decimalAnswer (packed d x i)
+        pub packed-value : (r : Decimal) → r ≡ decimalAnswer (readAt x (f .start + f .lead) (f .value) part (f .start)) → r ≡ decimalAnswer (packed d x i)
         unfolding readAt
         packed-value r q =
-            let e : readAt x (f .start + f .prefix) (f .value) part (f .start) ≡ numbered (f .start) (part / 2) (packedNumber (sized .p) (valueOf x (t .note))) =
+            let e : readAt x (f .start + f .lead) (f .value) part (f .start) ≡ numbered (f .start) (part / 2) (packedNumber (sized .p) (valueOf x (t .note))) =
             rw (digits-are, t .value-is) in
             q
             ∙ ap decimalAnswer (e ∙ ap (λ n. numbered n (part / 2) (packedNumber (sized .p) (valueOf x (t .note)))) (t .start-is)

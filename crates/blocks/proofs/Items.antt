@@ -25,7 +25,7 @@ module _ (d x : List ℕ) (i : ℕ) (f : Found) where
     pub start-is : f .start ≡ note .start
     pub null-is : f .null ≡ note .isNull
     pub code-is : f .entry / 16777216 % 256 ≡ note .field .code
-    pub value-is : take (f .value) (drop (f .start + f .prefix) x) ≡ valueOf x note
+    pub value-is : take (f .value) (drop (f .start + f .lead) x) ≡ valueOf x note
     pub length-is : f .value ≡ note .value
     pub digits-are : f .entry / 4398046511104 % 64 ≡ digitsPart (note .field .size)
     pub good : GoodNote note

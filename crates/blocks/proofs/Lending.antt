@@ -15,7 +15,7 @@ use Rattle.blocks.specs.declared.Lent.{Lent}
 use Rattle.blocks.specs.Lending.{lentAt, LentPart}
 
 pub place-found : (x : Result Note) (r : Found) → r ≡ foundOf x
-    → record { number = r .number; place = r .place; offset = r .start + r .prefix; length = r .value } ≡ lentAt x
+    → record { number = r .number; place = r .place; offset = r .start + r .lead; length = r .value } ≡ lentAt x
 unfolding foundOf
 place-found (refuse n p) r h = rw h
 place-found (ok n) r h = rw h

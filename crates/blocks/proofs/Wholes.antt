@@ -106,19 +106,19 @@ module _ (d x : List ℕ) (i : ℕ) (f : Found) (w : FoundAs (itemAt d x i) x f)
       is-whole =
           rw type-code
           (whole-code (t .note .field .type) (t .note .field .size) (valueOf x (t .note)) (rw type-code at least) (rw type-code at most) (t .good .field-good .allowed)
-          (λ q. omega (arith, t .good .filled q .0, length-take (t .note .value) (drop (t .note .start + t .note .prefix) x))))
+          (λ q. omega (arith, t .good .filled q .0, length-take (t .note .value) (drop (t .note .start + t .note .lead) x))))
 
       pub whole-null : f .null ≡ true → record { number = 0; place = 0; null = true; value = pos 0 } ≡ wholeAnswer (wholeNumber d x i)
       unfolding wholeNumber
       whole-null q = let k : t .note .isNull ≡ true = sym (t .null-is) ∙ q in rw (t .is-item, is-whole, k)
 
       pub whole-read : (z : ℤ) → f .null ≡ false → SFits w64 z
-          → z ≡ wholeUpTo8 (take (f .start + f .prefix + f .value - (f .start + f .prefix)) (drop (f .start + f .prefix) x)) (eqb c 0x24)
+          → z ≡ wholeUpTo8 (take (f .start + f .lead + f .value - (f .start + f .lead)) (drop (f .start + f .lead) x)) (eqb c 0x24)
           → record { number = 0; place = 0; null = false; value = toZ w64 (ofZ w64 z) } ≡ wholeAnswer (wholeNumber d x i)
       unfolding wholeNumber
       whole-read z q s e =
           let k : t .note .isNull ≡ false = sym (t .null-is) ∙ q in
-          let v : take (f .start + f .prefix + f .value - (f .start + f .prefix)) (drop (f .start + f .prefix) x) ≡ valueOf x (t .note) =
-          ap (λ n. take n (drop (f .start + f .prefix) x)) (add-sub-cancel-left (f .start + f .prefix) (f .value)) ∙ t .value-is in
+          let v : take (f .start + f .lead + f .value - (f .start + f .lead)) (drop (f .start + f .lead) x) ≡ valueOf x (t .note) =
+          ap (λ n. take n (drop (f .start + f .lead) x)) (add-sub-cancel-left (f .start + f .lead) (f .value)) ∙ t .value-is in
           let m : z ≡ wholeUpTo8 (valueOf x (t .note)) (eqb c 0x24) = e ∙ ap (λ l. wholeUpTo8 l (eqb c 0x24)) v in
           rw (toZ-ofZ w64 z s, t .is-item, is-whole, k) (ap wholly m)

@@ -12,7 +12,7 @@ use Rattle.blocks.specs.declared.Lent.{Lent}
 -- gives zeros.
 abbrev pub lentAt : Result Note → Lent
 lentAt (refuse n p) = record { number = n; place = p; offset = 0; length = 0 }
-lentAt (ok i) = record { number = 0; place = 0; offset = i .start + i .prefix; length = i .value }
+lentAt (ok i) = record { number = 0; place = 0; offset = i .start + i .lead; length = i .value }
 
 -- The lent part r of the data s: it has the value's bytes, and its address is that of the value's place, also where it is empty.
 pub record LentPart (x : Result Note) (s r : RefT (List ℕ)) : Type 0 where

@@ -144,7 +144,7 @@ pub fn value_place(descriptor: &[u8], data: &[u8], item: u32) -> Lent
     ensures { λ r. ⌜ (r ≡ lentAt (itemAt (now (descriptor .entry)) (now («data» .entry)) item)) × (r .offset + r .length ≤ length (now («data» .entry))) ⌝ }
 {
     let found = lookups::find(descriptor, data, item);
-    let offset = (found.start + found.prefix) as u32;
+    let offset = (found.start + found.lead) as u32;
     let length = found.value as u32;
     Lent {
         number: found.number,
@@ -206,7 +206,7 @@ pub fn whole_number(descriptor: &[u8], data: &[u8], item: u32) -> Whole
             value: 0,
         };
     }
-    let from = found.start + found.prefix;
+    let from = found.start + found.lead;
     let to = from + found.value;
     Whole {
         number: 0,
@@ -277,7 +277,7 @@ pub fn packed(descriptor: &[u8], data: &[u8], item: u32) -> Decimal
     }
     unpacked(
         data,
-        found.start + found.prefix,
+        found.start + found.lead,
         found.value,
         digits,
         found.start,

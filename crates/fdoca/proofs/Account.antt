@@ -18,7 +18,7 @@ use Rattle.fdoca.proofs.Tests.{by-test, by-le, by-lt}
 
 -- what measuring says of an item's parts
 abbrev pub sizes : Parts → Measured
-sizes x = item (x .isNull) (length (x .prefix)) (length (x .value)) (length (x .padding))
+sizes x = item (x .isNull) (length (x .lead)) (length (x .value)) (length (x .spare))
 
 -- the number of one byte, and of two
 pub big-one : (a : ℕ) → big (a ∷ []) ≡ a
@@ -155,15 +155,15 @@ measured-item f z p v r rest (value {b = b} {p = p′} h k w) =
 
 -- bytes that begin with parts of the kind G, of the given lengths
 record Found (G : List ℕ → List ℕ → List ℕ → Type 0) (s : List ℕ) (p v r : ℕ) : Type 0 where
-  prefix : List ℕ
+  lead : List ℕ
   value : List ℕ
-  padding : List ℕ
+  spare : List ℕ
   rest : List ℕ
-  split : s ≡ prefix ++ (value ++ (padding ++ rest))
-  kind : G prefix value padding
-  prefix-length : length prefix ≡ p
+  split : s ≡ lead ++ (value ++ (spare ++ rest))
+  kind : G lead value spare
+  lead-length : length lead ≡ p
   value-length : length value ≡ v
-  padding-length : length padding ≡ r
+  spare-length : length spare ≡ r
 
 abbrev Parsed : (Bool → List ℕ → List ℕ → List ℕ → Type 0) → List ℕ → Measured → Type 0
 Parsed G s (refused k) = Unit {0}
@@ -180,15 +180,15 @@ parsed-fixed mode z T s t =
     by-le (Parsed (Plain mode z T) s) F (length s)
     (λ h. let e : length (take F s) ≡ F = length-take-le F s h in
     record {
-      prefix = [];
+      lead = [];
       value = take F s;
-      padding = [];
+      spare = [];
       rest = drop F s;
       split = sym (take-append-drop F s);
       kind = no-null (of-size t (fill z (take F s) e));
-      prefix-length = refl;
+      lead-length = refl;
       value-length = e;
-      padding-length = refl;
+      spare-length = refl;
     })
     (λ h. tt)
 
@@ -232,15 +232,15 @@ module _ (k : LengthField) (mode : ℕ) (z : Size) (s : List ℕ) where
       let g : isNegative k (length (take L (drop w s))) ≡ false = rw e₂ h₂ in
       let q : Reserved mode F (length (take L (drop w s))) (take (unused sp L) (drop L (drop w s))) = rw e₂ (reserved-of mode F L (take (unused sp L) (drop L (drop w s))) h₃ e₃) in
       record {
-        prefix = take w s;
+        lead = take w s;
         value = take L (drop w s);
-        padding = take (unused sp L) (drop L (drop w s));
+        spare = take (unused sp L) (drop L (drop w s));
         rest = drop (unused sp L) (drop L (drop w s));
         split = simp take-append-drop;
         kind = no-null (make (take w s) (take L (drop w s)) (take (unused sp L) (drop L (drop w s))) e₁ (sym e₂) g q);
-        prefix-length = e₁;
+        lead-length = e₁;
         value-length = e₂;
-        padding-length = e₃;
+        spare-length = e₃;
       }
 
   parsed-counted : (T : FieldType)
@@ -297,15 +297,15 @@ module _ (mode : ℕ) (y : Size) (s : List ℕ) where
       let q : Reserved mode G′ (length (take k s)) (take r (drop (suc k) s)) = rw e₁ (fill _ e₂) in
       let l : s ≡ take k s ++ (0 ∷ (take r (drop (suc k) s) ++ drop r (drop (suc k) s))) = rw (take-append-drop r (drop (suc k) s), ← z) (sym (take-append-drop k s)) in
       record {
-        prefix = [];
+        lead = [];
         value = take k s;
-        padding = 0 ∷ take r (drop (suc k) s);
+        spare = 0 ∷ take r (drop (suc k) s);
         rest = drop r (drop (suc k) s);
         split = l;
         kind = no-null (before-zero (zero-at s .0) q);
-        prefix-length = refl;
+        lead-length = refl;
         value-length = e₁;
-        padding-length = ap suc e₂;
+        spare-length = ap suc e₂;
       }
 
   -- nothing but the zero byte, and the space that is left
@@ -349,15 +349,15 @@ module _ (f : Field) where
   parsed-plain s (refused k) h x = tt
   parsed-plain s (item z p v r) h x =
       record {
-        prefix = x .prefix;
+        lead = x .lead;
         value = x .value;
-        padding = x .padding;
+        spare = x .spare;
         rest = x .rest;
         split = x .split;
         kind = go (x .kind);
-        prefix-length = x .prefix-length;
+        lead-length = x .lead-length;
         value-length = x .value-length;
-        padding-length = x .padding-length;
+        spare-length = x .spare-length;
       }
     where
       go : {z : Bool} {p v r : List ℕ} → OfField z p v r → Item f z p v r
@@ -367,15 +367,15 @@ module _ (f : Field) where
   parsed-indicated b s (refused k) h g x = tt
   parsed-indicated b s (item z p v r) h g x =
       record {
-        prefix = b ∷ x .prefix;
+        lead = b ∷ x .lead;
         value = x .value;
-        padding = x .padding;
+        spare = x .spare;
         rest = x .rest;
         split = ap (λ y. b ∷ y) (x .split);
         kind = go (x .kind);
-        prefix-length = omega (arith, x .prefix-length);
+        lead-length = omega (arith, x .lead-length);
         value-length = x .value-length;
-        padding-length = x .padding-length;
+        spare-length = x .spare-length;
       }
     where
       go : {z : Bool} {p v r : List ℕ} → OfField z p v r → Item f z (b ∷ p) v r
@@ -387,15 +387,15 @@ module _ (f : Field) where
   parsed-nullable (b ∷ s) h =
       by-le (Parsed (Item f) (b ∷ s)) 128 b
       (λ k. record {
-        prefix = b ∷ [];
+        lead = b ∷ [];
         value = [];
-        padding = [];
+        spare = [];
         rest = s;
         split = refl;
         kind = null h k;
-        prefix-length = refl;
+        lead-length = refl;
         value-length = refl;
-        padding-length = refl;
+        spare-length = refl;
       })
       (λ k. parsed-indicated b s (measureValue (ruleOf (f .type) .layout) (f .mode) (fieldLength f) s) h k
       (parsed-value (f .mode) (f .size) (f .type) s))
@@ -410,11 +410,11 @@ module _ (f : Field) where
   pub measure-sound : (s : List ℕ) (z : Bool) (p v r : ℕ) → measure f s ≡ item z p v r → (x : Parts) × Begins f s x × (sizes x ≡ item z p v r)
   measure-sound s z p v r e =
       let x : Found (Item f z) s p v r = rw e at (parsed s) in
-      let y : Parts = record { isNull = z; prefix = x .prefix; value = x .value; padding = x .padding } in
+      let y : Parts = record { isNull = z; lead = x .lead; value = x .value; spare = x .spare } in
       let b : Begins f s y = record { rest = x .rest; split = x .split; account = x .kind } in
       (y, b, cc)
 
   -- An item of the account is measured as such.
   pub measure-complete : (s : List ℕ) (x : Parts) → Begins f s x → measure f s ≡ sizes x
   measure-complete s x b =
-      ap (measure f) (b .split) ∙ measured-item f (x .isNull) (x .prefix) (x .value) (x .padding) (b .rest) (b .account)
+      ap (measure f) (b .split) ∙ measured-item f (x .isNull) (x .lead) (x .value) (x .spare) (b .rest) (b .account)

@@ -85,7 +85,7 @@ pub noted-as : (f : Field) (q : ℕ) (y : Measured) (n : Note) → noteOf f q y 
 unfolding noteOf
 noted-as f q (refused m) n e = absurd (let z : _≡_ {A = ℕ} 0 1 = cc in let w : ⊥ = omega arith in w)
 noted-as f q (item z p v r) n e =
-    let k : n ≡ record { start = q; field = f; isNull = z; prefix = p; value = v; padding = r } = cc in
+    let k : n ≡ record { start = q; field = f; isNull = z; lead = p; value = v; spare = r } = cc in
     (z, p, v, r, refl, ap (λ i. i .field) k, ap (λ i. i .start) k)
 
 module _ {fs : List Field} {s : List ℕ} {k q : ℕ} {f : Field} {rest : List ℕ} (x : StartsAt fs s k f q rest) where

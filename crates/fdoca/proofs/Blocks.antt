@@ -22,20 +22,20 @@ use Rattle.fdoca.proofs.Results.{IfOk, none-owed, holds, bind-all, reje
 
 -- an item's bytes, one run after the other, with others behind them
 abbrev pub onto : Parts → List ℕ → List ℕ
-onto x s = x .prefix ++ (x .value ++ (x .padding ++ s))
+onto x s = x .lead ++ (x .value ++ (x .spare ++ s))
 
-pub behind : (x : Parts) (s : List ℕ) → drop (length (x .prefix) + length (x .value) + length (x .padding)) (onto x s) ≡ s
+pub behind : (x : Parts) (s : List ℕ) → drop (length (x .lead) + length (x .value) + length (x .spare)) (onto x s) ≡ s
 behind x s =
-    let a : List ℕ = x .prefix ++ (x .value ++ x .padding) in
-    let e : length a ≡ length (x .prefix) + length (x .value) + length (x .padding) = simp length-append (omega arith) in
+    let a : List ℕ = x .lead ++ (x .value ++ x .spare) in
+    let e : length a ≡ length (x .lead) + length (x .value) + length (x .spare) = simp length-append (omega arith) in
     let q : onto x s ≡ a ++ s = simp append-assoc in
-    rw q (drop-at a s (length (x .prefix) + length (x .value) + length (x .padding)) e)
+    rw q (drop-at a s (length (x .lead) + length (x .value) + length (x .spare)) e)
 
 -- more bytes behind an item's
 onto-append : (x : Parts) (s t : List ℕ) → onto x s ++ t ≡ onto x (s ++ t)
 onto-append x s t = simp append-assoc
 
-onto-length : (x : Parts) (s : List ℕ) → length (onto x s) ≡ length (x .prefix) + length (x .value) + length (x .padding) + length s
+onto-length : (x : Parts) (s : List ℕ) → length (onto x s) ≡ length (x .lead) + length (x .value) + length (x .spare) + length s
 onto-length x s = simp length-append (omega arith)
 
 -- A block with other bytes behind it is cut into its items, down to those bytes.
@@ -68,7 +68,7 @@ note-sound f p s = go (measure f s) refl
     go (item z l v r) e =
         let q = measure-sound f s z l v r e in
         let w : _≡_ {A = Result Note} (noteOf f p (item z l v r)) (noteOf f p (sizes (q .0))) = ap (noteOf f p) (sym (q .2)) in
-        let y : NotedAs f p s (record { start = p; field = f; isNull = z; prefix = l; value = v; padding = r }) =
+        let y : NotedAs f p s (record { start = p; field = f; isNull = z; lead = l; value = v; spare = r }) =
         record { parts = q .0; begins = q .1; same = cc } in
         holds y
 
@@ -136,34 +136,34 @@ walk-sound fs s ns e = ok-of (rw e at (accepted fs s))
 
 -- the parts with which bytes begin, from their lengths
 pub first-parts : (x : Parts) (s t : List ℕ) → s ≡ onto x t
-    → (x .prefix ≡ take (length (x .prefix)) s)
-    × (x .value ≡ take (length (x .value)) (drop (length (x .prefix)) s))
-    × (x .padding ≡ take (length (x .padding)) (drop (length (x .prefix) + length (x .value)) s))
+    → (x .lead ≡ take (length (x .lead)) s)
+    × (x .value ≡ take (length (x .value)) (drop (length (x .lead)) s))
+    × (x .spare ≡ take (length (x .spare)) (drop (length (x .lead) + length (x .value)) s))
 first-parts x s t e =
-    let a : x .prefix ≡ take (length (x .prefix)) s = rw e (sym (take-at (x .prefix) (x .value ++ (x .padding ++ t)) (length (x .prefix)) refl)) in
-    let d : drop (length (x .prefix)) s ≡ x .value ++ (x .padding ++ t) = rw e (drop-at (x .prefix) (x .value ++ (x .padding ++ t)) (length (x .prefix)) refl) in
-    let b : x .value ≡ take (length (x .value)) (drop (length (x .prefix)) s) = rw d (sym (take-at (x .value) (x .padding ++ t) (length (x .value)) refl)) in
-    let q : drop (length (x .prefix) + length (x .value)) s ≡ x .padding ++ t = sym (drop-drop (length (x .value)) (length (x .prefix)) s) ∙ rw d (drop-at (x .value) (x .padding ++ t) (length (x .value)) refl) in
-    let c : x .padding ≡ take (length (x .padding)) (drop (length (x .prefix) + length (x .value)) s) = rw q (sym (take-at (x .padding) t (length (x .padding)) refl)) in
+    let a : x .lead ≡ take (length (x .lead)) s = rw e (sym (take-at (x .lead) (x .value ++ (x .spare ++ t)) (length (x .lead)) refl)) in
+    let d : drop (length (x .lead)) s ≡ x .value ++ (x .spare ++ t) = rw e (drop-at (x .lead) (x .value ++ (x .spare ++ t)) (length (x .lead)) refl) in
+    let b : x .value ≡ take (length (x .value)) (drop (length (x .lead)) s) = rw d (sym (take-at (x .value) (x .spare ++ t) (length (x .value)) refl)) in
+    let q : drop (length (x .lead) + length (x .value)) s ≡ x .spare ++ t = sym (drop-drop (length (x .value)) (length (x .lead)) s) ∙ rw d (drop-at (x .value) (x .spare ++ t) (length (x .value)) refl) in
+    let c : x .spare ≡ take (length (x .spare)) (drop (length (x .lead) + length (x .value)) s) = rw q (sym (take-at (x .spare) t (length (x .spare)) refl)) in
     (a, b, c)
 
 abbrev made : Bool → List ℕ → List ℕ → List ℕ → Parts
-made z p v r = record { isNull = z; prefix = p; value = v; padding = r }
+made z p v r = record { isNull = z; lead = p; value = v; spare = r }
 
 -- two items with which the same bytes begin
 pub same-parts : (f : Field) (s : List ℕ) (x y : Parts) → Begins f s x → Begins f s y → x ≡ y
 same-parts f s x y a b =
     let e : sizes x ≡ sizes y = sym (measure-complete f s x a) ∙ measure-complete f s y b in
     let z : x .isNull ≡ y .isNull = cc in
-    let n₁ : length (x .prefix) ≡ length (y .prefix) = cc in
+    let n₁ : length (x .lead) ≡ length (y .lead) = cc in
     let n₂ : length (x .value) ≡ length (y .value) = cc in
-    let n₃ : length (x .padding) ≡ length (y .padding) = cc in
+    let n₃ : length (x .spare) ≡ length (y .spare) = cc in
     let p = first-parts x s (a .rest) (a .split) in
     let q = first-parts y s (b .rest) (b .split) in
-    let l₁ : x .prefix ≡ y .prefix = p .0 ∙ ap (λ n. take n s) n₁ ∙ sym (q .0) in
+    let l₁ : x .lead ≡ y .lead = p .0 ∙ ap (λ n. take n s) n₁ ∙ sym (q .0) in
     let l₂ : x .value ≡ y .value = p .1 ∙ rw (n₁, n₂) (sym (q .1)) in
-    let l₃ : x .padding ≡ y .padding = p .2 ∙ rw (n₁, n₂, n₃) (sym (q .2)) in
-    let r : made (x .isNull) (x .prefix) (x .value) (x .padding) ≡ made (y .isNull) (y .prefix) (y .value) (y .padding) = rw (z, l₁, l₂, l₃) in
+    let l₃ : x .spare ≡ y .spare = p .2 ∙ rw (n₁, n₂, n₃) (sym (q .2)) in
+    let r : made (x .isNull) (x .lead) (x .value) (x .spare) ≡ made (y .isNull) (y .lead) (y .value) (y .spare) = rw (z, l₁, l₂, l₃) in
     r
 
 -- There is one way only to cut a block into its fields' items.
@@ -171,7 +171,7 @@ pub one-way : (fs : List Field) (xs ys : List Parts) (s t : List ℕ) → Block 
 one-way fs xs ys s t done done e = refl
 one-way fs xs ys s t (next {f = f} {fs = gs} {ps = ps} {s = s′} x i b) (next {ps = qs} {s = t′} y j c) e =
     let h : x ≡ y = same-parts f s x y (record { rest = s′; split = refl; account = i }) (record { rest = t′; split = e; account = j }) in
-    let l : drop (length (x .prefix) + length (x .value) + length (x .padding)) s ≡ t′ = rw (e, h) (behind y t′) in
+    let l : drop (length (x .lead) + length (x .value) + length (x .spare)) s ≡ t′ = rw (e, h) (behind y t′) in
     let r : ps ≡ qs = one-way gs ps qs s′ t′ b c (sym (behind x s′) ∙ l) in
     cc
 
@@ -184,9 +184,9 @@ note-of-part p fs xs s whole (next {f = g} {fs = fs′} {ps = ps} {s = t} y i bl
     let eg : g ≡ f = cc in
     let ey : y ≡ x = cc in
     let ep : p + 0 ≡ p = omega arith in
-    let v : drop (p + length (y .prefix)) whole ≡ y .value ++ (y .padding ++ t) =
-    sym (drop-drop (length (y .prefix)) p whole) ∙ ap (drop (length (y .prefix))) h ∙ drop-at (y .prefix) (y .value ++ (y .padding ++ t)) (length (y .prefix)) refl in
-    let r : valueOf whole (noteOfParts p g y) ≡ y .value = rw v (take-at (y .value) (y .padding ++ t) (length (y .value)) refl) in
+    let v : drop (p + length (y .lead)) whole ≡ y .value ++ (y .spare ++ t) =
+    sym (drop-drop (length (y .lead)) p whole) ∙ ap (drop (length (y .lead))) h ∙ drop-at (y .lead) (y .value ++ (y .spare ++ t)) (length (y .lead)) refl in
+    let r : valueOf whole (noteOfParts p g y) ≡ y .value = rw v (take-at (y .value) (y .spare ++ t) (length (y .value)) refl) in
     rw (ep, ← eg, ← ey) (refl, r)
 note-of-part p fs xs s whole (next {f = g} {fs = fs′} {ps = ps} {s = t} y i bl) h (suc k) f x a b =
     let h′ : drop (p + size y) whole ≡ t = sym (drop-drop (size y) p whole) ∙ ap (drop (size y)) h ∙ behind y t in

@@ -179,7 +179,7 @@ stands-note f p s h = go (measure f (drop p s)) refl (within f (drop p s))
     go : (m : Measured) → measure f (drop p s) ≡ m → Within (length (drop p s)) m → IfOk (λ n. Stands s n × (p + itemLength n ≤ length s)) (noteOf f p m)
     go (refused n) e w = none-owed
     go (item z l v r) e w =
-        let a : Stands s (record { start = p; field = f; isNull = z; prefix = l; value = v; padding = r }) = record { starts = h; measured = e } in
+        let a : Stands s (record { start = p; field = f; isNull = z; lead = l; value = v; spare = r }) = record { starts = h; measured = e } in
         let b : p + (l + v + r) ≤ length s = omega (arith, w, length-drop p s) in
         holds (a, b)
 

@@ -346,7 +346,7 @@ good-note : (f : Field) (p : ℕ) (m : Measured) → GoodField f → Filled (rul
 unfolding noteOf
 good-note f p (refused n) g h = none-owed
 good-note f p (item z l v r) g h =
-    let k : GoodNote (record { start = p; field = f; isNull = z; prefix = l; value = v; padding = r }) =
+    let k : GoodNote (record { start = p; field = f; isNull = z; lead = l; value = v; spare = r }) =
     record { field-good = g; filled = λ e. rw e at h } in
     holds k
 

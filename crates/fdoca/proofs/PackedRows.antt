@@ -74,7 +74,7 @@ module _ (d s : List ℕ) (k : ℕ) where
         let same : j ≡ i = let g : getElem? (found d s k i e .notes) k ≡ some i = found d s k i e .is-item in cc in
         let y : NotedAs f q rest i = rw same at (ok-of (rw n at (note-sound f q rest))) in
         let r : drop q s ≡ rest = rw (x .split) (drop-at (x .bytes) rest q (x .place-is)) in
-        let l : drop (q + length (y .parts .prefix)) s ≡ drop (length (y .parts .prefix)) rest = sym (drop-drop (length (y .parts .prefix)) q s) ∙ ap (drop (length (y .parts .prefix))) r in
+        let l : drop (q + length (y .parts .lead)) s ≡ drop (length (y .parts .lead)) rest = sym (drop-drop (length (y .parts .lead)) q s) ∙ ap (drop (length (y .parts .lead))) r in
         let v : valueOf s i ≡ y .parts .value =
         ap (valueOf s) (y .same) ∙ ap (take (length (y .parts .value))) l ∙ sym (first-parts (y .parts) rest (y .begins .rest) (y .begins .split) .1) in
         record { parts = y .parts; begins = y .begins; null-is = ap (λ n. n .isNull) (y .same); value-is = v }

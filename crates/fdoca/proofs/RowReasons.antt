@@ -135,9 +135,9 @@ no-item (value l h x) g a b c = absurd (let z : ⊥ = omega (arith, ap length a)
 no-bytes : (f : Field) → GoodField f → (z : Bool) (p v r : ℕ) → measure f [] ≡ item z p v r → (f .code ≡ 0x01) × (fieldLength f ≡ 0)
 no-bytes f g z p v r e =
     let (x, b, _) = measure-sound f [] z p v r e in
-    let (a, c) = nothing-joined (x .prefix) (x .value ++ (x .padding ++ b .rest)) (b .split) in
-    let (u, w) = nothing-joined (x .value) (x .padding ++ b .rest) (sym c) in
-    no-item (b .account) g a u (nothing-joined (x .padding) (b .rest) (sym w) .0)
+    let (a, c) = nothing-joined (x .lead) (x .value ++ (x .spare ++ b .rest)) (b .split) in
+    let (u, w) = nothing-joined (x .value) (x .spare ++ b .rest) (sym c) in
+    no-item (b .account) g a u (nothing-joined (x .spare) (b .rest) (sym w) .0)
 
 -- so a layout whose items take none is endless,
 no-data-pass : (p : ℕ) (fs : List Field) → AllGood fs → (c : Cut) → cutFrom p fs [] ≡ ok c → endless fs ≡ true

@@ -76,7 +76,7 @@ stops p (f ∷ fs) s = go (measure f s) refl (λ q t. stops q fs t)
     go (item z l v r) e ih = rest i (cutFrom (p + itemLength i) fs (drop (itemLength i) s)) (ap (noteOf f p) e) (ih (p + itemLength i) (drop (itemLength i) s))
       where
         i : Note
-        i = record { start = p; field = f; isNull = z; prefix = l; value = v; padding = r }
+        i = record { start = p; field = f; isNull = z; lead = l; value = v; spare = r }
 
 stops-back : (p : ℕ) (fs : List Field) (s : List ℕ) (n q : ℕ) → StopsAt p fs s n q → cutFrom p fs s ≡ refuse n q
 unfolding cutFrom noteOf

@@ -60,21 +60,21 @@ pub data Item (f : Field) : Bool → List ℕ → List ℕ → List ℕ → Type
 -- An item's null mark and its three runs of bytes.
 pub record Parts : Type 0 where
   pub isNull : Bool
-  pub prefix : List ℕ
+  pub lead : List ℕ
   pub value : List ℕ
-  pub padding : List ℕ
+  pub spare : List ℕ
 
 -- The bytes s begin with an item of the field f: its parts, and some bytes behind them.
 pub record Begins (f : Field) (s : List ℕ) (x : Parts) : Type 0 where
   pub rest : List ℕ
-  pub split : s ≡ x .prefix ++ (x .value ++ (x .padding ++ rest))
-  pub account : Item f (x .isNull) (x .prefix) (x .value) (x .padding)
+  pub split : s ≡ x .lead ++ (x .value ++ (x .spare ++ rest))
+  pub account : Item f (x .isNull) (x .lead) (x .value) (x .spare)
 
 -- A block: the items of its fields, one after the other, and nothing behind them.
 pub data Block : List Field → List Parts → List ℕ → Type 0 where
   done : Block [] [] []
-  next : {f : Field} {fs : List Field} {ps : List Parts} {s : List ℕ} (x : Parts) → Item f (x .isNull) (x .prefix) (x .value) (x .padding)
-      → Block fs ps s → Block (f ∷ fs) (x ∷ ps) (x .prefix ++ (x .value ++ (x .padding ++ s)))
+  next : {f : Field} {fs : List Field} {ps : List Parts} {s : List ℕ} (x : Parts) → Item f (x .isNull) (x .lead) (x .value) (x .spare)
+      → Block fs ps s → Block (f ∷ fs) (x ∷ ps) (x .lead ++ (x .value ++ (x .spare ++ s)))
 
 -- The number of a packed decimal's digits, most significant first: a digit before n others counts 10 to the n.
 pub data Digits : List ℕ → ℕ → Type 0 where

@@ -26,7 +26,7 @@ valueLength terminated F s = beforeZero s
 -- A note of an item that stands at its start: measured there again, it is what was noted.
 pub record Stands (s : List ℕ) (n : Note) : Type 0 where
   pub starts : n .start ≤ length s
-  pub measured : measure (n .field) (drop (n .start) s) ≡ item (n .isNull) (n .prefix) (n .value) (n .padding)
+  pub measured : measure (n .field) (drop (n .start) s) ≡ item (n .isNull) (n .lead) (n .value) (n .spare)
 
 -- The triplets from the place p on, as a loop over places meets them.
 abbrev pub tripletsAt : List ℕ → ℕ → List Triplet

@@ -54,7 +54,7 @@ itemAt d s k = do
 
 -- The bytes of an item's value: the part of the data that holds it.
 abbrev pub valueOf : List ℕ → Note → List ℕ
-valueOf s i = take (i .value) (drop (i .start + i .prefix) s)
+valueOf s i = take (i .value) (drop (i .start + i .lead) s)
 
 -- Two's complement at any width, most significant byte first: from half on, a number stands for itself less the number of all.
 unfoldable pub signed : List ℕ → ℤ

@@ -26,7 +26,7 @@ pub record InItem (ns : List Note) (i k : ℕ) : Type 0 where
 
 -- How many bytes an item's parts have, and those of the items before item k: where it starts.
 abbrev pub size : Parts → ℕ
-size x = length (x .prefix) + length (x .value) + length (x .padding)
+size x = length (x .lead) + length (x .value) + length (x .spare)
 
 abbrev pub startOf : List Parts → (k : ℕ) → ℕ
 startOf xs k = sum (map size (take k xs))
@@ -34,7 +34,7 @@ startOf xs k = sum (map size (take k xs))
 -- The note of an item's parts at a position, and the notes of a block's items, laid end to end from p on.
 abbrev pub noteOfParts : ℕ → Field → Parts → Note
 noteOfParts p f x =
-    record { start = p; field = f; isNull = x .isNull; prefix = length (x .prefix); value = length (x .value); padding = length (x .padding) }
+    record { start = p; field = f; isNull = x .isNull; lead = length (x .lead); value = length (x .value); spare = length (x .spare) }
 
 abbrev pub notesOf : ℕ → List Field → List Parts → List Note
 notesOf p [] xs = []

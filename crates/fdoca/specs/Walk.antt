@@ -14,13 +14,13 @@ pub record Note : Type 0 where
   pub start : ℕ
   pub field : Field
   pub isNull : Bool
-  pub prefix : ℕ
+  pub lead : ℕ
   pub value : ℕ
-  pub padding : ℕ
+  pub spare : ℕ
 
 -- An item's length: all its bytes.
 abbrev pub itemLength : Note → ℕ
-itemLength n = n .prefix + n .value + n .padding
+itemLength n = n .lead + n .value + n .spare
 
 -- Items that were cut from the data, the position behind them, and the bytes from there on.
 pub record Cut : Type 0 where
@@ -31,7 +31,7 @@ pub record Cut : Type 0 where
 -- The note of an item that was measured at position p; the walk stops with the number of a refusal, and the position.
 unfoldable pub noteOf : Field → (p : ℕ) → Measured → Result Note
 noteOf f p (refused n) = refuse n p
-noteOf f p (item z l v r) = ok (record { start = p; field = f; isNull = z; prefix = l; value = v; padding = r })
+noteOf f p (item z l v r) = ok (record { start = p; field = f; isNull = z; lead = l; value = v; spare = r })
 
 abbrev pub with : Note → Cut → Cut
 with n c = record { notes = n ∷ c .notes; end = c .end; rest = c .rest }

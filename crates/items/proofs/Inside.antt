@@ -30,7 +30,7 @@ numbered-item isNullable l mode F s = of-item s Numbered (numbered (length s)) i
 
 -- what an outcome is, by its answer's number
 module _ (m : Measured) where
-  pub is-item : (x : defined.Measured) → Numbered x → m ≡ answer x → m .number ≡ 0 → x ≡ item (m .null) (m .prefix) (m .value) (m .padding)
+  pub is-item : (x : defined.Measured) → Numbered x → m ≡ answer x → m .number ≡ 0 → x ≡ item (m .null) (m .lead) (m .value) (m .spare)
   unfolding answer
   is-item (refused n) k e z = absurd (let y : m .number ≡ n = ap (λ (a : Measured). a .number) e in let w : ⊥ = omega arith in w)
   is-item (item z p v r) k e y = rw e
@@ -40,17 +40,17 @@ module _ (m : Measured) where
   is-refused (refused n) e z = rw e
   is-refused (item z p v r) e y = absurd (y (ap (λ (a : Measured). a .number) e))
 
-  pub is-within : (n : ℕ) (x : defined.Measured) → Within n x → m ≡ answer x → m .prefix + m .value + m .padding ≤ n
+  pub is-within : (n : ℕ) (x : defined.Measured) → Within n x → m ≡ answer x → m .lead + m .value + m .spare ≤ n
   unfolding answer
   is-within n (refused k) w e = rw e (omega arith)
   is-within n (item z p v r) w e = rw e w
 
 -- the item at the start of the bytes, and at a place of a data block
 module _ (m : Measured) (isNullable : Bool) (l : Layout) (mode F : ℕ) where
-  pub inside : (s : List ℕ) → m ≡ answer (measureItem isNullable l mode F s) → m .prefix + m .value + m .padding ≤ length s
+  pub inside : (s : List ℕ) → m ≡ answer (measureItem isNullable l mode F s) → m .lead + m .value + m .spare ≤ length s
   inside s e = is-within m (length s) (measureItem isNullable l mode F s) (within-item isNullable l mode F s) e
 
-  pub inside-at : (s : List ℕ) (at : ℕ) → at ≤ length s → m ≡ answer (measureItem isNullable l mode F (drop at s)) → at + (m .prefix + m .value + m .padding) ≤ length s
+  pub inside-at : (s : List ℕ) (at : ℕ) → at ≤ length s → m ≡ answer (measureItem isNullable l mode F (drop at s)) → at + (m .lead + m .value + m .spare) ≤ length s
   inside-at s at h e =
-      let k : m .prefix + m .value + m .padding ≤ length s - at = rw length-drop at (inside (drop at s) e) in
+      let k : m .lead + m .value + m .spare ≤ length s - at = rw length-drop at (inside (drop at s) e) in
       omega arith

@@ -26,7 +26,7 @@ use Rattle.items.proofs.Ways.{moved, by-indicator, one-byte}
 -- a value that is measured has no null mark, its length field and the length that this tells
 record Shape (l : Layout) (F : ℕ) (s : List ℕ) (z : Bool) (p v : ℕ) : Type 0 where
   no-null : z ≡ false
-  prefix-is : p ≡ widthOf l
+  lead-is : p ≡ widthOf l
   value-is : v ≡ valueLength l F s
   there : widthOf l ≤ length s
 
@@ -41,7 +41,7 @@ module _ (l : Layout) (mode F : ℕ) (s : List ℕ) (z : Bool) (p v r : ℕ) whe
         short = λ e. absurd (clash e);
         count = λ e. absurd (clash e);
         no-end = λ e. absurd (clash e);
-        found = λ d k e. record { no-null = cc; prefix-is = cc; value-is = cc; there = omega arith };
+        found = λ d k e. record { no-null = cc; lead-is = cc; value-is = cc; there = omega arith };
       })
 
 -- a layout's length field, by the layout's number
@@ -103,28 +103,28 @@ record Behind (b : Bool) (s : List ℕ) (k : ℕ) : Type 0 where
   indicator : measureIndicator b s ≡ item false k 0 0
   small : k ≤ 1
 
-plain-indicator : (b : Bool) (s : List ℕ) (m : Measured) → m ≡ answer (measureIndicator b s) → m .null ≡ false → (measureIndicator b s ≡ refused 13 → ⊥) → Behind b s (m .prefix)
+plain-indicator : (b : Bool) (s : List ℕ) (m : Measured) → m ≡ answer (measureIndicator b s) → m .null ≡ false → (measureIndicator b s ≡ refused 13 → ⊥) → Behind b s (m .lead)
 unfolding measureIndicator answer
 plain-indicator false s m h k g = record { indicator = rw h; small = rw h (omega arith) }
 plain-indicator true [] m h k g = absurd (g refl)
 plain-indicator true (b ∷ s) m h k g = go (leb 128 b) refl
   where
-    go : (t : Bool) → leb 128 b ≡ t → Behind true (b ∷ s) (m .prefix)
+    go : (t : Bool) → leb 128 b ≡ t → Behind true (b ∷ s) (m .lead)
     go true e = absurd (true≢false (sym (ap (λ (a : Measured). a .null) (rw e at h)) ∙ k))
     go false e = let q : m ≡ answer (item false 1 0 0) = rw e at h in record { indicator = rw (q, e); small = rw q (omega arith) }
 
 -- a value behind k bytes, without them
 record Unmoved (x : defined.Measured) (k : ℕ) (z : Bool) (p v d : ℕ) : Type 0 where
-  prefix : ℕ
-  value-is : x ≡ item z prefix v d
-  sum : p ≡ prefix + k
+  lead : ℕ
+  value-is : x ≡ item z lead v d
+  sum : p ≡ lead + k
 
 unmoved : (x : defined.Measured) (k : ℕ) (z : Bool) (p v d : ℕ) → moved k x ≡ item z p v d → Unmoved x k z p v d
 unmoved (refused n) k z p v d e = absurd (clash e)
-unmoved (item y q u c) k z p v d e = record { prefix = q; value-is = cc; sum = cc }
+unmoved (item y q u c) k z p v d e = record { lead = q; value-is = cc; sum = cc }
 
 module _ (b : Bool) (l : Layout) (F : ℕ) (s : List ℕ) (m : Measured) (h : m ≡ answer (measureIndicator b s)) where
-  pub null-parts : m .null ≡ true → PartsOf b l F s (record { null = true; prefix = m .prefix; value = m .value })
+  pub null-parts : m .null ≡ true → PartsOf b l F s (record { null = true; lead = m .lead; value = m .value })
   unfolding answer
   null-parts k =
       record {
@@ -135,36 +135,36 @@ module _ (b : Bool) (l : Layout) (F : ℕ) (s : List ℕ) (m : Measured) (h : m 
       }
 
   module _ (g : Good b l F s) (k : m .null ≡ false) where
-    behind : Behind b s (m .prefix)
+    behind : Behind b s (m .lead)
     behind =
         plain-indicator b s m h k
         (λ e. let q : measureItem b l (g .mode) F s ≡ refused 13 = rw (by-indicator l (g .mode) F b s, e) in clash (sym q ∙ g .measured))
 
     record Read (z : Bool) (p v : ℕ) : Type 0 where
       own : ℕ
-      sum : p ≡ own + m .prefix
-      shape-is : Shape l F (drop (m .prefix) s) z own v
+      sum : p ≡ own + m .lead
+      shape-is : Shape l F (drop (m .lead) s) z own v
 
     read : (mode : ℕ) (z : Bool) (p v d : ℕ) → measureItem b l mode F s ≡ item z p v d → Read z p v
     read mode z p v d e =
-        let q : moved (m .prefix) (measureValue l mode F (drop (m .prefix) s)) ≡ item z p v d = sym (rw (by-indicator l mode F b s, behind .indicator)) ∙ e in
-        let u = unmoved (measureValue l mode F (drop (m .prefix) s)) (m .prefix) z p v d q in
-        record { own = u .prefix; sum = u .sum; shape-is = shape l mode F (drop (m .prefix) s) z (u .prefix) v d (u .value-is) }
+        let q : moved (m .lead) (measureValue l mode F (drop (m .lead) s)) ≡ item z p v d = sym (rw (by-indicator l mode F b s, behind .indicator)) ∙ e in
+        let u = unmoved (measureValue l mode F (drop (m .lead) s)) (m .lead) z p v d q in
+        record { own = u .lead; sum = u .sum; shape-is = shape l mode F (drop (m .lead) s) z (u .lead) v d (u .value-is) }
 
-    pub value-parts : (w n : ℕ) → w ≡ widthOf l → n ≡ valueLength l F (take (length s - m .prefix) (drop (m .prefix) s))
-        → PartsOf b l F s (record { null = false; prefix = m .prefix + w; value = n })
+    pub value-parts : (w n : ℕ) → w ≡ widthOf l → n ≡ valueLength l F (take (length s - m .lead) (drop (m .lead) s))
+        → PartsOf b l F s (record { null = false; lead = m .lead + w; value = n })
     value-parts w n e f =
         record {
           each = λ mode z p v d q.
               let r = read mode z p v d q in
               let x : z ≡ false = r .shape-is .no-null in
-              let y : p ≡ m .prefix + w = omega (arith, r .sum, r .shape-is .prefix-is) in
+              let y : p ≡ m .lead + w = omega (arith, r .sum, r .shape-is .lead-is) in
               let t : v ≡ n = r .shape-is .value-is ∙ sym (rw part-to-end at f) in
               rw (x, y, t);
         }
 
-    pub field-there : widthOf l ≤ length (take (length s - m .prefix) (drop (m .prefix) s))
-    field-there = rw part-to-end (read (g .mode) (g .isNull) (g .prefix) (g .value) (g .padding) (g .measured) .shape-is .there)
+    pub field-there : widthOf l ≤ length (take (length s - m .lead) (drop (m .lead) s))
+    field-there = rw part-to-end (read (g .mode) (g .isNull) (g .lead) (g .value) (g .spare) (g .measured) .shape-is .there)
 
-    pub prefix-fits : (w : ℕ) → w ≤ 2 → m .prefix + w < 2 ^ 64
-    prefix-fits w e = omega (arith, behind .small)
+    pub lead-fits : (w : ℕ) → w ≤ 2 → m .lead + w < 2 ^ 64
+    lead-fits w e = omega (arith, behind .small)

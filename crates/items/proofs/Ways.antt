@@ -177,7 +177,7 @@ within-indicator true [] = tt
 within-indicator true (b ∷ s) = by-test (Within (length (b ∷ s))) (leb 128 b) (λ t. omega arith) (λ t. omega arith)
 
 module _ (b : Bool) (s : List ℕ) (m : Measured) (h : m ≡ answer (measureIndicator b s)) where
-  pub indicator-inside : m .prefix ≤ length s
+  pub indicator-inside : m .lead ≤ length s
   indicator-inside = omega (arith, is-within m (length s) (measureIndicator b s) (within-indicator b s) h)
 
   module _ (l : Layout) (mode f : ℕ) where
@@ -187,18 +187,18 @@ module _ (b : Bool) (s : List ℕ) (m : Measured) (h : m ≡ answer (measureIndi
     pub measured-null : m .null ≡ true → m ≡ answer (measureItem b l mode f s)
     measured-null k = rw (by-indicator l mode f b s) (null-told m (measureIndicator b s) _ h k)
 
-    module _ (v : Measured) (e : v ≡ answer (measureValue l mode f (take (length s - m .prefix) (drop (m .prefix) s)))) where
-      pub moved-fits : length s < 2 ^ 64 → v .prefix + m .prefix < 18446744073709551616
+    module _ (v : Measured) (e : v ≡ answer (measureValue l mode f (take (length s - m .lead) (drop (m .lead) s)))) where
+      pub moved-fits : length s < 2 ^ 64 → v .lead + m .lead < 18446744073709551616
       moved-fits k =
-          let t : List ℕ = take (length s - m .prefix) (drop (m .prefix) s) in
-          let q : v .prefix + v .value + v .padding ≤ length t = is-within v (length t) _ (within-value l mode f t) e in
-          let n : length t ≤ length s - m .prefix = simp (length-take, length-drop) (omega arith) in
-          let i : m .prefix ≤ length s = indicator-inside in
+          let t : List ℕ = take (length s - m .lead) (drop (m .lead) s) in
+          let q : v .lead + v .value + v .spare ≤ length t = is-within v (length t) _ (within-value l mode f t) e in
+          let n : length t ≤ length s - m .lead = simp (length-take, length-drop) (omega arith) in
+          let i : m .lead ≤ length s = indicator-inside in
           omega arith
 
-      pub measured-value : (r : Measured) → m .number ≡ 0 → m .null ≡ false → r ≡ movedBy (m .prefix) v → r ≡ answer (measureItem b l mode f s)
+      pub measured-value : (r : Measured) → m .number ≡ 0 → m .null ≡ false → r ≡ movedBy (m .lead) v → r ≡ answer (measureItem b l mode f s)
       measured-value r z k q =
-          let x : measureIndicator b s ≡ item false (m .prefix) (m .value) (m .padding) = rw k at (is-item m (measureIndicator b s) (numbered-indicator b s) h z) in
-          rw (by-indicator l mode f b s, x, ← part-to-end s (m .prefix)) (q ∙ moved-by v _ (m .prefix) (numbered-value l mode f _) e)
+          let x : measureIndicator b s ≡ item false (m .lead) (m .value) (m .spare) = rw k at (is-item m (measureIndicator b s) (numbered-indicator b s) h z) in
+          rw (by-indicator l mode f b s, x, ← part-to-end s (m .lead)) (q ∙ moved-by v _ (m .lead) (numbered-value l mode f _) e)
 
 pub ruleset measured-ways = (measured-refused, measured-null, measured-value, indicator-inside, moved-fits)

@@ -25,5 +25,5 @@ measureIndicator true (b ∷ s) = if leb 128 b then item true 1 0 0 else item fa
 -- An answer whose item stands behind `skip` bytes, with them.
 unfoldable pub movedBy : (skip : ℕ) → Measured → Measured
 movedBy skip m =
-    if eqb (m .number) 0 then record { number = 0; null = m .null; prefix = m .prefix + skip; value = m .value; padding = m .padding }
+    if eqb (m .number) 0 then record { number = 0; null = m .null; lead = m .lead + skip; value = m .value; spare = m .spare }
     else m

@@ -11,11 +11,11 @@ use Rattle.items.specs.declared.Parts.{Parts}
 pub record Good (isNullable : Bool) (l : Layout) (F : ℕ) (s : List ℕ) : Type 0 where
   pub mode : ℕ
   pub isNull : Bool
-  pub prefix : ℕ
+  pub lead : ℕ
   pub value : ℕ
-  pub padding : ℕ
-  pub measured : measureItem isNullable l mode F s ≡ item isNull prefix value padding
+  pub spare : ℕ
+  pub measured : measureItem isNullable l mode F s ≡ item isNull lead value spare
 
 -- These are the parts of such an item.
 pub record PartsOf (isNullable : Bool) (l : Layout) (F : ℕ) (s : List ℕ) (r : Parts) : Type 0 where
-  pub each : (mode : ℕ) (z : Bool) (p v d : ℕ) → measureItem isNullable l mode F s ≡ item z p v d → r ≡ record { null = z; prefix = p; value = v }
+  pub each : (mode : ℕ) (z : Bool) (p v d : ℕ) → measureItem isNullable l mode F s ≡ item z p v d → r ≡ record { null = z; lead = p; value = v }

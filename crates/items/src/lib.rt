@@ -17,7 +17,7 @@ use terminated::refusal;
 // An item up to its value's end: the null mark, how many bytes precede the value, and how many it has.
 pub struct Parts {
     pub null: bool,
-    pub prefix: usize,
+    pub lead: usize,
     pub value: usize,
 }
 
@@ -119,15 +119,15 @@ fn indicator(s: &[u8], nullable: bool) -> Measured
     Measured {
         number: 0,
         null: true,
-        prefix: 1,
+        lead: 1,
         value: 0,
-        padding: 0,
+        spare: 0,
     }
 }
 
 // What was measured behind `skip` bytes, with them.
 fn behind(m: Measured, skip: usize) -> Measured
-    requires { ⌜ m .prefix + skip < 18446744073709551616 ⌝ }
+    requires { ⌜ m .lead + skip < 18446744073709551616 ⌝ }
     ensures { λ r. ⌜ r ≡ movedBy skip m ⌝ }
 {
     if m.number != 0 {
@@ -136,9 +136,9 @@ fn behind(m: Measured, skip: usize) -> Measured
     Measured {
         number: 0,
         null: m.null,
-        prefix: m.prefix + skip,
+        lead: m.lead + skip,
         value: m.value,
-        padding: m.padding,
+        spare: m.spare,
     }
 }
 
@@ -154,7 +154,7 @@ pub fn measure(s: &[u8], nullable: bool, layout: u8, mode: u8, f: usize) -> Meas
     if told.null {
         return told;
     }
-    let skip = told.prefix;
+    let skip = told.lead;
     behind(value(&s[skip..], layout, mode, f), skip)
 }
 
@@ -197,14 +197,14 @@ pub fn good_parts(s: &[u8], nullable: bool, layout: u8, f: usize) -> Parts
     if head.null {
         return Parts {
             null: true,
-            prefix: head.prefix,
+            lead: head.lead,
             value: head.value,
         };
     }
-    let skip = head.prefix;
+    let skip = head.lead;
     Parts {
         null: false,
-        prefix: skip + width(layout),
+        lead: skip + width(layout),
         value: value_length(&s[skip..], layout, f),
     }
 }

@@ -32,7 +32,7 @@ start-inside es s k h w = w .each k h
 
 module _ (es s t u : List ℕ) (first at k : ℕ) (g : Going es s t u first at k) where
   pub line-more : (v : List ℕ) (r : ℕ) (m : Measured) → Put u v at r (entryLine k (getD es k 0) m) → k < length es → length es ≤ 4096 → length s ≤ 32768 → StartsIn es s
-      → m ≡ answer (measureEntry (getD es k 0) (drop (startIn (getD es k 0)) s)) → startIn (getD es k 0) + (m .prefix + m .value + m .padding) ≤ length s
+      → m ≡ answer (measureEntry (getD es k 0) (drop (startIn (getD es k 0)) s)) → startIn (getD es k 0) + (m .lead + m .value + m .spare) ≤ length s
       → Going es s t v first r (k + 1)
   unfolding entryLines
   line-more v r m p h few small starts e inside =

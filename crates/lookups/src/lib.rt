@@ -28,7 +28,7 @@ fn not_found(number: u32, place: u32) -> Found
         place: place,
         start: 0,
         null: false,
-        prefix: 0,
+        lead: 0,
         value: 0,
         entry: 0,
     }

@@ -11,9 +11,9 @@ ghost use Rattle.terminated.specs.Answer.{answer};
 pub struct Measured {
     pub number: u8,
     pub null: bool,
-    pub prefix: usize,
+    pub lead: usize,
     pub value: usize,
-    pub padding: usize,
+    pub spare: usize,
 }
 
 // The data end before the item does.
@@ -28,21 +28,21 @@ pub fn refusal(number: u8) -> Measured
     Measured {
         number: number,
         null: false,
-        prefix: 0,
+        lead: 0,
         value: 0,
-        padding: 0,
+        spare: 0,
     }
 }
 
-pub fn found(prefix: usize, value: usize, padding: usize) -> Measured
-    ensures { λ r. ⌜ r ≡ answer (item false prefix value padding) ⌝ }
+pub fn found(lead: usize, value: usize, spare: usize) -> Measured
+    ensures { λ r. ⌜ r ≡ answer (item false lead value spare) ⌝ }
 {
     Measured {
         number: 0,
         null: false,
-        prefix: prefix,
+        lead: lead,
         value: value,
-        padding: padding,
+        spare: spare,
     }
 }
 

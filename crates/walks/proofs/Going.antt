@@ -22,11 +22,11 @@ use Rattle.walks.proofs.Parts.{entry-measures}
 
 -- an item's length
 abbrev pub long : Measured → ℕ
-long m = m .prefix + m .value + m .padding
+long m = m .lead + m .value + m .spare
 
 -- what is noted of a field's item that was measured at p
 abbrev pub noteAt : Field → (p : ℕ) → Measured → Note
-noteAt f p m = record { start = p; field = f; isNull = m .null; prefix = m .prefix; value = m .value; padding = m .padding }
+noteAt f p m = record { start = p; field = f; isNull = m .null; lead = m .lead; value = m .value; spare = m .spare }
 
 -- the items ns, and then those of a cut
 abbrev pub behind : List Note → Cut → Cut
@@ -75,7 +75,7 @@ cut-refused : (p n : ℕ) (f : Field) (fs : List Field) (s : List ℕ) → measu
 unfolding cutFrom noteOf
 cut-refused p n f fs s e = rw e
 
-cut-item : (p : ℕ) (m : Measured) (f : Field) (fs : List Field) (s : List ℕ) → measure f s ≡ item (m .null) (m .prefix) (m .value) (m .padding)
+cut-item : (p : ℕ) (m : Measured) (f : Field) (fs : List Field) (s : List ℕ) → measure f s ≡ item (m .null) (m .lead) (m .value) (m .spare)
     → cutFrom p (f ∷ fs) s ≡ (cutFrom (p + long m) fs (drop (long m) s) >>= λ c. ok (with (noteAt f p m) c))
 unfolding cutFrom noteOf
 cut-item p m f fs s e = rw e
@@ -84,7 +84,7 @@ marks-refused : (p n : ℕ) (f : Field) (fs : List Field) (s : List ℕ) → mea
 unfolding marksFrom noteOf
 marks-refused p n f fs s e = rw e
 
-marks-item : (p : ℕ) (m : Measured) (f : Field) (fs : List Field) (s : List ℕ) → measure f s ≡ item (m .null) (m .prefix) (m .value) (m .padding)
+marks-item : (p : ℕ) (m : Measured) (f : Field) (fs : List Field) (s : List ℕ) → measure f s ≡ item (m .null) (m .lead) (m .value) (m .spare)
     → marksFrom p (f ∷ fs) s ≡ markOf (noteAt f p m) ∷ marksFrom (p + long m) fs (drop (long m) s)
 unfolding marksFrom noteOf
 marks-item p m f fs s e = rw e
@@ -130,7 +130,7 @@ module _ {o : ℕ} {fs : List Field} {s es : List ℕ} {e p : ℕ} {ns : List No
   goes-on z =
       let n : Note = noteAt (x .field) p m in
       let later : List ℕ = marksFrom (p + long m) (x .later) (drop (p + long m) s) in
-      let r : measure (x .field) (drop p s) ≡ item (m .null) (m .prefix) (m .value) (m .padding) =
+      let r : measure (x .field) (drop p s) ≡ item (m .null) (m .lead) (m .value) (m .spare) =
       sym (entry-is-measure (x .field) e (drop p s) (x .entry-is) (x .proper)) ∙ is-item m (measureEntry e (drop p s)) (entry-numbered e (drop p s)) h z in
       let c : cutFrom p (g .ahead) (drop p s) ≡ (cutFrom (p + long m) (x .later) (drop (long m) (drop p s)) >>= λ c. ok (with (noteAt (x .field) p m) c)) =
       ap (λ l. cutFrom p l (drop p s)) (x .fields-are) ∙ cut-item p m (x .field) (x .later) (drop p s) r in

@@ -32,7 +32,7 @@ module _ (s : List ℕ) (e : ℕ) (n : Note) (h : MarkIn s e n) where
   here = rw start-is (part-to-end s (n .start))
 
   item-here : measureItem (nullable (e / 16777216 % 256)) (layoutOf (e / 1099511627776 % 4)) (e / 4294967296 % 256) (e % 65536) (take (length s - e / 281474976710656) (drop (e / 281474976710656) s))
-      ≡ item (n .isNull) (n .prefix) (n .value) (n .padding)
+      ≡ item (n .isNull) (n .lead) (n .value) (n .spare)
   unfolding measureEntry markOf
   item-here = rw here (ap (λ y. measureEntry y (drop (n .start) s)) (h .mark) ∙ entry-measures (n .field) (n .start) (drop (n .start) s) (h .proper) ∙ h .stands .measured)
 
@@ -45,20 +45,20 @@ module _ (s : List ℕ) (e : ℕ) (h : IsMark s e) where
       record {
         mode = e / 4294967296 % 256;
         isNull = h .note .isNull;
-        prefix = h .note .prefix;
+        lead = h .note .lead;
         value = h .note .value;
-        padding = h .note .padding;
+        spare = h .note .spare;
         measured = item-here s e (h .note) (h .mark-in);
       }
 
 pub mark-found : (s : List ℕ) (e : ℕ) (r : Parts)
     → PartsOf (nullable (e / 16777216 % 256)) (layoutOf (e / 1099511627776 % 4)) (e % 65536) (take (length s - e / 281474976710656) (drop (e / 281474976710656) s)) r
-    → FoundBy s e (record { number = 0; place = 0; start = e / 281474976710656; null = r .null; prefix = r .prefix; value = r .value; entry = e % 281474976710656 })
+    → FoundBy s e (record { number = 0; place = 0; start = e / 281474976710656; null = r .null; lead = r .lead; value = r .value; entry = e % 281474976710656 })
 unfolding foundOf
 mark-found s e r h =
     record {
       each = λ n m.
-          let q : r ≡ record { null = n .isNull; prefix = n .prefix; value = n .value } =
-          h .each (e / 4294967296 % 256) (n .isNull) (n .prefix) (n .value) (n .padding) (item-here s e n m) in
+          let q : r ≡ record { null = n .isNull; lead = n .lead; value = n .value } =
+          h .each (e / 4294967296 % 256) (n .isNull) (n .lead) (n .value) (n .spare) (item-here s e n m) in
           rw (start-is s e n m, entry-is s e n m, q);
     }

@@ -32,7 +32,7 @@ pub struct Found {
     pub place: u32,
     pub start: usize,
     pub null: bool,
-    pub prefix: usize,
+    pub lead: usize,
     pub value: usize,
     pub entry: u64,
 }
@@ -55,7 +55,7 @@ const REFUSED: usize = 65536;
 // The item at a place of the data, by its entry in the plan. It lies within the data.
 pub fn item_at(entry: u64, data: &[u8], at: usize) -> terminated::Measured
     requires { ⌜ at ≤ length (now «data») ⌝ }
-    ensures { λ r. ⌜ (r ≡ answer (measureEntry entry (drop at (now («data» .entry))))) × (at + (r .prefix + r .value + r .padding) ≤ length (now («data» .entry))) ⌝ }
+    ensures { λ r. ⌜ (r ≡ answer (measureEntry entry (drop at (now («data» .entry))))) × (at + (r .lead + r .value + r .spare) ≤ length (now («data» .entry))) ⌝ }
 {
     let nullable = 128 <= entry / CODE % 256;
     let layout = (entry / LAYOUT % 4) as u8;
@@ -101,7 +101,7 @@ fn step_at(entry: u64, data: &[u8], at: usize) -> usize
     if m.number != 0 {
         return REFUSED + m.number as usize;
     }
-    m.prefix + m.value + m.padding
+    m.lead + m.value + m.spare
 }
 
 // Where the walk over a part of a plan has come to: the place behind its last item, or an item's refusal and the item's place.
@@ -262,7 +262,7 @@ pub fn item_of(marked: u64, data: &[u8]) -> Found
         place: 0,
         start: start,
         null: parts.null,
-        prefix: parts.prefix,
+        lead: parts.lead,
         value: parts.value,
         entry: marked % POSITION,
     }

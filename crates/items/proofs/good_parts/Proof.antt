@@ -2,7 +2,7 @@
 -- Assumes nothing.
 use borrow.Author.Needs.{needs}
 use Rattle.items.proofs.Ways.{indicator-inside}
-use Rattle.items.proofs.Shapes.{null-parts, value-parts, field-there, prefix-fits}
+use Rattle.items.proofs.Shapes.{null-parts, value-parts, field-there, lead-fits}
 use Rattle.items.proofs.good_parts.Statement.{statement}
 use Rattle.items.proofs.good_parts.Tie as tie
 
@@ -16,7 +16,7 @@ width-requires : tie.Need-width-requires
 width-requires c κs = search needs
 
 add-t9 : tie.Need-add-t9
-add-t9 c = search (needs, prefix-fits)
+add-t9 c = search (needs, lead-fits)
 
 sub-value-length : tie.Need-sub-value-length
 sub-value-length c = search (needs, indicator-inside)
