@@ -121,8 +121,8 @@ module _ (d x : List ℕ) (i : ℕ) (f : Found) (w : FoundAs (itemAt d x i) x f)
         pub is-packing : Packing x (f .start + f .lead) (f .value) part (f .start)
         is-packing =
             record {
-              inside = w .inside;
-              small = w .small;
+              inside = omega (arith, w .inside);
+              small = omega (arith, w .small);
               some-bytes = omega (arith, value-long);
               few = omega (arith, digits-are, sized .few);
               part-small = omega arith;

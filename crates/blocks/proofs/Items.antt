@@ -35,7 +35,7 @@ module _ (d x : List ℕ) (i : ℕ) (f : Found) where
   the-item w h = go (itemAt d x i) refl (w .found) (w .state)
     where
       go : (r : Result Note) → itemAt d x i ≡ r → f ≡ foundOf r
-          → record { number = f .number; place = f .place; null = f .null; code = f .entry / 16777216 % 256; length = f .value } ≡ stateOf r → TheItem
+          → record { number = f .number; place = f .place; null = f .null; code = f .entry / 16777216 % 256; lead = f .lead; value = f .value; spare = f .spare } ≡ stateOf r → TheItem
       go (refuse n p) e a b = absurd (let z : n ≡ 0 = rw a at h in let k : ⊥ = omega (arith, item-number d x i n p e) in k)
       go (ok n) e a b =
           record {

@@ -125,7 +125,7 @@ pub fn list(descriptor: &[u8], data: &[u8], list: &mut [u32]) -> Listed
     list_planned(descriptor, &starts, &sizes, &entries, x, data, list)
 }
 
-// Tells an item's state: null mark, type code, value length.
+// Tells an item's state: null mark, type code, and the lengths of its lead, its value and its spare.
 pub fn state(descriptor: &[u8], data: &[u8], item: u32) -> State
     ensures { λ r. ⌜ r ≡ stateOf (itemAt (now (descriptor .entry)) (now («data» .entry)) item) ⌝ }
 {
@@ -135,7 +135,9 @@ pub fn state(descriptor: &[u8], data: &[u8], item: u32) -> State
         place: found.place,
         null: found.null,
         code: (found.entry / CODE % 256) as u8,
-        length: found.value as u32,
+        lead: found.lead as u32,
+        value: found.value as u32,
+        spare: found.spare as u32,
     }
 }
 

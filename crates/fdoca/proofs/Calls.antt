@@ -3,7 +3,7 @@
 use mathlib.Core.Path.{_≡_, refl, ap, _∙_}
 use Prim.Native.Nat.{ℕ, _+_, _*_, _≤_}
 use native.Mathlib.Omega.{arith}
-use mathlib.Core.Bool.{_&&_, not}
+use mathlib.Core.Bool.{false, _&&_, not}
 use mathlib.Core.List.{List, _∷_, _++_, map, append-assoc}
 use lib.ListN.{length, drop, length-map, length-append, length-drop}
 use lib.Seq.{drop-at}
@@ -34,20 +34,36 @@ kept-list n size ns old e h =
     let l : length (a ++ drop (2 + 2 * n) old) ≡ length old = length-append a (drop (2 + 2 * n) old) ∙ omega (arith, length-drop (2 + 2 * n) old) in
     record { size = ap length q ∙ l; beyond = ap (drop (2 + 2 * n)) q ∙ drop-at a (drop (2 + 2 * n) old) (2 + 2 * n) k }
 
-list-kept : (d s old : List ℕ)
-    → IfOk (λ new. (n : ℕ) × (ns : List Note) × (check d ≡ ok n) × (walkBy (unfolded d) (repeated d) s ≡ ok ns) × Kept (length ns) old new) (list d s old)
+-- what an accepted list call has found, and the list that it leaves
+pub record Listing (d s old new : List ℕ) : Type 0 where
+  pub fits : oversize d s ≡ false
+  pub n : ℕ
+  pub accepts : check d ≡ ok n
+  pub notes : List Note
+  pub walks : walkBy (unfolded d) (repeated d) s ≡ ok notes
+  pub is-list : new ≡ itemList (length notes) (length s) notes old
+  pub kept : Kept (length notes) old new
+
+listing : (d s old : List ℕ) → IfOk (Listing d s old) (list d s old)
 unfolding list
-list-kept d s old =
+listing d s old =
     reject-all (oversize d s) 1 0
     (λ h. bind-all (check d) (itself (check d))
     (λ n e. reject-all (not (isSome (repeated d)) && small (length old) n) 12 0
     (λ h₁. bind-all (walkBy (unfolded d) (repeated d) s) (itself (walkBy (unfolded d) (repeated d) s))
     (λ ns w. reject-all (small (length old) (length ns)) 12 0
-    (λ h₂. let k : Kept (length ns) old (itemList (length ns) (length s) ns old) =
-    kept-list (length ns) (length s) ns old refl (ltb-false (length old) (2 + 2 * length ns) h₂) in
-    holds (n, ns, e, w, k))))))
+    (λ h₂. let k : Listing d s old (itemList (length ns) (length s) ns old) =
+    record {
+      fits = h;
+      n = n;
+      accepts = e;
+      notes = ns;
+      walks = w;
+      is-list = refl;
+      kept = kept-list (length ns) (length s) ns old refl (ltb-false (length old) (2 + 2 * length ns) h₂);
+    } in
+    holds k)))))
 
--- An accepted list call keeps the list's length, and all its entries beyond 2 + 2n.
-pub list-keeps : (d s old new : List ℕ) → list d s old ≡ ok new
-    → (n : ℕ) × (ns : List Note) × (check d ≡ ok n) × (walkBy (unfolded d) (repeated d) s ≡ ok ns) × Kept (length ns) old new
-list-keeps d s old new e = ok-of (rw e at (list-kept d s old))
+-- An accepted list call lists the items of its walk, and keeps the list's length and all its entries beyond 2 + 2n.
+pub list-keeps : (d s old new : List ℕ) → list d s old ≡ ok new → Listing d s old new
+list-keeps d s old new e = ok-of (rw e at (listing d s old))

@@ -15,22 +15,22 @@ use mathlib.Core.List.{List, [], _∷_, _++_, map}
 use mathlib.Core.Option.{Option, none, some}
 use lib.Dec.{ltb}
 use lib.IntN.{ℤ, pos}
-use lib.ListN.{length, drop, getElem?}
+use lib.ListN.{length, drop, getD, getElem?}
 use borrow.Author.Tests.{le-ltb, lt-ltb}
 use Rattle.fdoca.specs.Basics.{if_then_else_, Result, refuse, ok, _>>=_, _>>_, reject, the}
-use Rattle.fdoca.specs.FieldType.{FieldType, fixed, typeOf, bytes, digits, sizeOf, ruleOf}
+use Rattle.fdoca.specs.FieldType.{FieldType, terminatedBytes, fixed, typeOf, bytes, digits, sizeOf, ruleOf}
 use Rattle.fdoca.specs.Triplet.{GDA, codeOf, parametersOf}
 use Rattle.fdoca.specs.Item.{Field, withSize}
 use Rattle.fdoca.specs.Walk.{Note, walk, walkRows, walkBy}
 use Rattle.fdoca.specs.Check.{maxDescriptor, maxItems, Entry, array, suitsType, goodColumn, countAdded, addGroup, goodLengthSDA, checkSDA, check}
 use Rattle.fdoca.specs.Unfolding.{fieldsAdded, fieldOf, unfolded, repeated}
 use Rattle.fdoca.specs.Unfolding as U
-use Rattle.fdoca.specs.Account.{Parts, Block, Packed}
+use Rattle.fdoca.specs.Account.{NonZero, Item, Parts, Block, Packed}
 use Rattle.fdoca.specs.Calls.{maxData, oversize, itemList, small, list, itemAt, valueOf, wholeOf, wholeNumber, packed, checked, listed, entriesAfter, stateOf, lent, wholeAnswer, decimalAnswer}
 use Rattle.fdoca.specs.Packed.{packedNumber}
 use Rattle.fdoca.specs.Reasons.{byte, OneOf, F, Suits, Allowed, Means, OfItems, withPasses, OfRows, Uses, Unfolds, as-it-is, and-passes, OfDescriptor, OfList, OfState, OfWholeNumber, OfPacked, fileDescriptor, fileData, OfFile, First, None}
 use Rattle.fdoca.specs.Dump.{refusedLine, textOf, secondSize, dump}
-use Rattle.fdoca.specs.Cover.{sum, positions, lengths, InItem, startOf, notesOf, noteOfParts}
+use Rattle.fdoca.specs.Cover.{sum, positions, lengths, InItem, Part, lead, value, spare, partLength, partBytes, allParts, InPart, endListed, startOf, notesOf, noteOfParts}
 use Rattle.fdoca.proofs.Table.{there, past-end}
 use Rattle.fdoca.proofs.Count.{count-is-length, bad-type}
 use Rattle.fdoca.proofs.Limits.{at-most-4096}
@@ -45,6 +45,7 @@ use Rattle.fdoca.proofs.RowReasons.{one-number}
 use Rattle.fdoca.proofs.Data.{item-count, not-endless, items-told, walk-rows-told, WalkedBy, walked-by, block-walked}
 use Rattle.fdoca.proofs.CallRows.{list-told, state-told, whole-told}
 use Rattle.fdoca.proofs.Fields.{good-at, digits-packed, unfolding-good, rows-good, field-allowed, item-good}
+use Rattle.fdoca.proofs.ThreeParts.{parts-account, part-long, null-lengths, ended-parts, all-parts, in-a-part, in-one-part, listed-item}
 use Rattle.fdoca.proofs.Packed.{packed-sound, packed-complete}
 use Rattle.fdoca.proofs.PackedRows.{packed-told}
 use Rattle.fdoca.proofs.FileRows.{fileNotes, file-text, file-told, file-listed}
@@ -74,16 +75,16 @@ module _ (d s old : List ℕ) where
   pub beyond-unaltered : repeated d ≡ none → (new : List ℕ) → list d s old ≡ ok new
       → (length new ≡ length old) × (drop (2 + 2 * length (unfolded d)) new ≡ drop (2 + 2 * length (unfolded d)) old)
   beyond-unaltered plain new e =
-      let (n, ns, c, w, k) = list-keeps d s old new e in
-      let x = walked-by d n c s ns w in
-      let l : length ns ≡ length (unfolded d) = item-count (x .fields) s ns (x .walks) ∙ ap length (x .plain plain) in
-      rw (← l) (k .size, k .beyond)
+      let k = list-keeps d s old new e in
+      let x = walked-by d (k .n) (k .accepts) s (k .notes) (k .walks) in
+      let l : length (k .notes) ≡ length (unfolded d) = item-count (x .fields) s (k .notes) (x .walks) ∙ ap length (x .plain plain) in
+      rw (← l) (k .kept .size, k .kept .beyond)
 
   pub beyond-rows-unaltered : (rows : List Field) → repeated d ≡ some rows → (n : ℕ) → Uses (unfolded d) rows s n → (new : List ℕ) → list d s old ≡ ok new
       → (length new ≡ length old) × (drop (2 + 2 * n) new ≡ drop (2 + 2 * n) old)
   beyond-rows-unaltered rows r n u new e =
-      let (m, ns, c, w, k) = list-keeps d s old new e in
-      rw (walked-by d m c s ns w .used rows n r u) (k .size, k .beyond)
+      let k = list-keeps d s old new e in
+      rw (walked-by d (k .n) (k .accepts) s (k .notes) (k .walks) .used rows n r u) (k .kept .size, k .kept .beyond)
 
 -- State and lending go by the same item.
 module _ (d s : List ℕ) (k : ℕ) where
@@ -204,17 +205,17 @@ module _ (d s : List ℕ) (n : ℕ) (accepts : check d ≡ ok n) (few : length s
 
   -- what the state call says where the walk stops, and where it does not
   states-stop-by : (m p : ℕ) → walkBy (unfolded d) (repeated d) s ≡ refuse m p → (k : ℕ)
-      → (stateOf (itemAt d s k) ≡ record { number = m; place = p; null = false; code = 0; length = 0 }) × (lent s (itemAt d s k) ≡ [])
+      → (stateOf (itemAt d s k) ≡ record { number = m; place = p; null = false; code = 0; lead = 0; value = 0; spare = 0 }) × (lent s (itemAt d s k) ≡ [])
   states-stop-by m p e k = (rw (item-walks k, e), rw (item-walks k, e))
 
   state-holds-by : (ns : List Note) → walkBy (unfolded d) (repeated d) s ≡ ok ns → (k : ℕ) → k < length ns
       → (i : Note) × (getElem? ns k ≡ some i)
-      × (stateOf (itemAt d s k) ≡ record { number = 0; place = 0; null = i .isNull; code = i .field .code; length = i .value })
+      × (stateOf (itemAt d s k) ≡ record { number = 0; place = 0; null = i .isNull; code = i .field .code; lead = i .lead; value = i .value; spare = i .spare })
       × (lent s (itemAt d s k) ≡ valueOf s i)
   state-holds-by ns e k h = let q = there ns k h in (q .0, q .1, rw (item-walks k, e, q .1), rw (item-walks k, e, q .1))
 
   no-more-states-by : (ns : List Note) → walkBy (unfolded d) (repeated d) s ≡ ok ns → (k : ℕ) → length ns ≤ k
-      → (stateOf (itemAt d s k) ≡ record { number = 17; place = 0; null = false; code = 0; length = 0 }) × (lent s (itemAt d s k) ≡ [])
+      → (stateOf (itemAt d s k) ≡ record { number = 17; place = 0; null = false; code = 0; lead = 0; value = 0; spare = 0 }) × (lent s (itemAt d s k) ≡ [])
   no-more-states-by ns e k h = let q = past-end ns k h in (rw (item-walks k, e, q), rw (item-walks k, e, q))
 
   -- WITHOUT ROWS TO THE END
@@ -237,7 +238,7 @@ module _ (d s : List ℕ) (n : ℕ) (accepts : check d ≡ ok n) (few : length s
       pub list-stops : (old : List ℕ) → 2 + 2 * n ≤ length old → (list d s old ≡ refuse m p) × (entriesAfter old (list d s old) ≡ old)
       list-stops old room = (rw (list-walks old room, e), rw (list-walks old room, e))
 
-      pub states-stop : (k : ℕ) → (stateOf (itemAt d s k) ≡ record { number = m; place = p; null = false; code = 0; length = 0 }) × (lent s (itemAt d s k) ≡ [])
+      pub states-stop : (k : ℕ) → (stateOf (itemAt d s k) ≡ record { number = m; place = p; null = false; code = 0; lead = 0; value = 0; spare = 0 }) × (lent s (itemAt d s k) ≡ [])
       states-stop k = states-stop-by m p (walks-unfolding ∙ e) k
 
     module _ (ns : List Note) (e : walk (unfolded d) s ≡ ok ns) where
@@ -248,13 +249,13 @@ module _ (d s : List ℕ) (n : ℕ) (accepts : check d ≡ ok n) (few : length s
       -- the state of item k below n is what was noted for field k, and its part is lent,
       pub state-holds : (k : ℕ) → k < n
           → (i : Note) × (getElem? ns k ≡ some i)
-          × (stateOf (itemAt d s k) ≡ record { number = 0; place = 0; null = i .isNull; code = i .field .code; length = i .value })
+          × (stateOf (itemAt d s k) ≡ record { number = 0; place = 0; null = i .isNull; code = i .field .code; lead = i .lead; value = i .value; spare = i .spare })
           × (lent s (itemAt d s k) ≡ valueOf s i)
       state-holds k h = state-holds-by ns (walks-unfolding ∙ e) k (omega (arith, items-noted d s n ns accepts e))
 
       -- and from n on there is no such item.
       pub no-more-states : (k : ℕ) → n ≤ k
-          → (stateOf (itemAt d s k) ≡ record { number = 17; place = 0; null = false; code = 0; length = 0 }) × (lent s (itemAt d s k) ≡ [])
+          → (stateOf (itemAt d s k) ≡ record { number = 17; place = 0; null = false; code = 0; lead = 0; value = 0; spare = 0 }) × (lent s (itemAt d s k) ≡ [])
       no-more-states k h = no-more-states-by ns (walks-unfolding ∙ e) k (omega (arith, items-noted d s n ns accepts e))
 
   -- WITH ROWS TO THE END
@@ -280,7 +281,7 @@ module _ (d s : List ℕ) (n : ℕ) (accepts : check d ≡ ok n) (few : length s
       pub rows-list-stops : (old : List ℕ) → (list d s old ≡ refuse m p) × (entriesAfter old (list d s old) ≡ old)
       rows-list-stops old = (rw (list-walks-rows old, e), rw (list-walks-rows old, e))
 
-      pub rows-states-stop : (k : ℕ) → (stateOf (itemAt d s k) ≡ record { number = m; place = p; null = false; code = 0; length = 0 }) × (lent s (itemAt d s k) ≡ [])
+      pub rows-states-stop : (k : ℕ) → (stateOf (itemAt d s k) ≡ record { number = m; place = p; null = false; code = 0; lead = 0; value = 0; spare = 0 }) × (lent s (itemAt d s k) ≡ [])
       rows-states-stop k = states-stop-by m p (walks-rows ∙ e) k
 
     module _ (ns : List Note) (e : walkRows (unfolded d) rows s ≡ ok ns) where
@@ -322,13 +323,75 @@ module _ (d s : List ℕ) (n : ℕ) (accepts : check d ≡ ok n) (few : length s
       -- the state of each is what was noted of it, and its part is lent, and behind them there is no item.
       pub rows-state-holds : (k : ℕ) → k < length ns
           → (i : Note) × (getElem? ns k ≡ some i)
-          × (stateOf (itemAt d s k) ≡ record { number = 0; place = 0; null = i .isNull; code = i .field .code; length = i .value })
+          × (stateOf (itemAt d s k) ≡ record { number = 0; place = 0; null = i .isNull; code = i .field .code; lead = i .lead; value = i .value; spare = i .spare })
           × (lent s (itemAt d s k) ≡ valueOf s i)
       rows-state-holds k h = state-holds-by ns (walks-rows ∙ e) k h
 
       pub no-more-rows : (k : ℕ) → length ns ≤ k
-          → (stateOf (itemAt d s k) ≡ record { number = 17; place = 0; null = false; code = 0; length = 0 }) × (lent s (itemAt d s k) ≡ [])
+          → (stateOf (itemAt d s k) ≡ record { number = 17; place = 0; null = false; code = 0; lead = 0; value = 0; spare = 0 }) × (lent s (itemAt d s k) ≡ [])
       no-more-rows k h = no-more-states-by ns (walks-rows ∙ e) k h
+
+-- THE THREE PARTS OF AN ITEM (Q-6)
+
+null-state : (i : Note) → i .isNull ≡ true → i .lead ≡ 1 → i .value ≡ 0 → i .spare ≡ 0
+    → stateOf (ok i) ≡ record { number = 0; place = 0; null = true; code = i .field .code; lead = 1; value = 0; spare = 0 }
+null-state i n a b c = rw (n, a, b, c)
+
+-- Of each item of the list, the three lengths that its state has add up to the item's length, from its start to where the list has its end.
+pub three-add-up : (d s old new : List ℕ) → list d s old ≡ ok new → (k : ℕ) → k < getD new 0 0
+    → getD new (2 + k) 0 + (stateOf (itemAt d s k) .lead + stateOf (itemAt d s k) .value + stateOf (itemAt d s k) .spare) ≡ endListed new k
+three-add-up d s old new e k h = let (i, a, b) = listed-item d s old new e k h in rw a b
+
+module _ (d s : List ℕ) (k : ℕ) where
+  -- A refusal has three zeros.
+  pub refused-zeros : (m p : ℕ) → itemAt d s k ≡ refuse m p → stateOf (itemAt d s k) ≡ record { number = m; place = p; null = false; code = 0; lead = 0; value = 0; spare = 0 }
+  refused-zeros m p e = rw e
+
+  module _ (i : Note) (e : itemAt d s k ≡ ok i) where
+    -- The parts of the data that have these lengths, one behind the other from the item's start on, are those of the standard's account, for every type;
+    pub parts-accounted : Item (i .field) (i .isNull) (partBytes s i lead) (partBytes s i value) (partBytes s i spare)
+    parts-accounted = parts-account d s k i e
+
+    pub parts-long : (w : Part) → length (partBytes s i w) ≡ partLength i w
+    parts-long w = part-long d s k i e w
+
+    -- the lent part is the value;
+    pub lent-is-value : lent s (itemAt d s k) ≡ partBytes s i value
+    lent-is-value = rw e
+
+    -- a null is all lead;
+    pub null-all-lead : stateOf (itemAt d s k) .null ≡ true
+        → stateOf (itemAt d s k) ≡ record { number = 0; place = 0; null = true; code = i .field .code; lead = 1; value = 0; spare = 0 }
+    null-all-lead n =
+        let m : i .isNull ≡ true = rw e at n in
+        let (a, b, c) = null-lengths d s k i e m in
+        ap stateOf e ∙ null-state i m a b c
+
+    -- and of a value of X'03' the terminator belongs to what follows: the value has no zero byte, and what follows it begins with one.
+    pub terminator-in-spare : typeOf (stateOf (itemAt d s k) .code) ≡ some terminatedBytes → stateOf (itemAt d s k) .null ≡ false
+        → (rest : List ℕ) × (partBytes s i spare ≡ 0 ∷ rest) × NonZero (lent s (itemAt d s k)) × (stateOf (itemAt d s k) .spare ≡ 1 + length rest)
+    terminator-in-spare t n =
+        let typed : typeOf (i .field .code) ≡ some terminatedBytes = rw e at t in
+        let own = item-good d s k i e .field-good .typed in
+        let q : i .field .type ≡ terminatedBytes = cc in
+        let (rest, a, b) = ended-parts d s k i e q (rw e at n) in
+        let long : i .spare ≡ 1 + length rest = omega (arith, part-long d s k i e spare, ap length a) in
+        (rest, a, rw e b, rw e long)
+
+-- The three parts of all items, in order, are the block's bytes,
+module _ (d s : List ℕ) (n : ℕ) (accepts : check d ≡ ok n) (ns : List Note) (e : walkBy (unfolded d) (repeated d) s ≡ ok ns) where
+  by-fields : WalkedBy d n accepts s ns
+  by-fields = walked-by d n accepts s ns e
+
+  pub parts-in-order : allParts s ns ≡ s
+  parts-in-order = all-parts (by-fields .fields) s ns (by-fields .walks)
+
+  -- each once.
+  pub byte-in-one-part : (b : ℕ) → b < length s → (k : ℕ) × ((w : Part) × InPart ns b k w)
+  byte-in-one-part b h = in-a-part (by-fields .fields) s ns (by-fields .walks) b h
+
+  pub byte-in-no-other-part : (b j k : ℕ) (v w : Part) → InPart ns b j v → InPart ns b k w → (j ≡ k) × (v ≡ w)
+  byte-in-no-other-part b j k v w x y = in-one-part (by-fields .fields) s ns (by-fields .walks) b j k v w x y
 
 -- DEMAND 2
 
@@ -391,16 +454,16 @@ lengths-allowed d n e fs u before f after k = let g = good-at before f after (rw
 -- to the end of the unfolding with some number of passes, at most 4,096 items,
 pub accepted-unfolds : (d s old new : List ℕ) → list d s old ≡ ok new → (fs : List Field) × Unfolds d fs × (length fs ≤ 4096) × ((xs : List Parts) × Block fs xs s)
 accepted-unfolds d s old new e =
-    let (n, ns, c, w, _) = list-keeps d s old new e in
-    let x = walked-by d n c s ns w in
-    let b = walk-sound (x .fields) s ns (x .walks) in
-    (x .fields, x .unfolds, omega (arith, x .few, item-count (x .fields) s ns (x .walks)), (b .parts, b .block))
+    let k = list-keeps d s old new e in
+    let x = walked-by d (k .n) (k .accepts) s (k .notes) (k .walks) in
+    let b = walk-sound (x .fields) s (k .notes) (x .walks) in
+    (x .fields, x .unfolds, omega (arith, x .few, item-count (x .fields) s (k .notes) (x .walks)), (b .parts, b .block))
 
 pub accepted-is-block : (d s old new : List ℕ) → repeated d ≡ none → list d s old ≡ ok new → (xs : List Parts) × Block (unfolded d) xs s
 accepted-is-block d s old new plain e =
-    let (n, ns, c, w, _) = list-keeps d s old new e in
-    let x = walked-by d n c s ns w in
-    let b = walk-sound (unfolded d) s ns (rw (x .plain plain) at (x .walks)) in
+    let k = list-keeps d s old new e in
+    let x = walked-by d (k .n) (k .accepts) s (k .notes) (k .walks) in
+    let b = walk-sound (unfolded d) s (k .notes) (rw (x .plain plain) at (x .walks)) in
     (b .parts, b .block)
 
 module _ (d s : List ℕ) (n : ℕ) (accepts : check d ≡ ok n) (few : length s ≤ 32768) where
@@ -438,7 +501,7 @@ module _ (d s : List ℕ) (n : ℕ) (accepts : check d ≡ ok n) (few : length s
 
     -- Item k has the null mark, the value and the length of its part, the type code of its field, and the whole number that the type reads from the
     -- value; 18 stands at its start, behind the parts before it.
-    pub read-as-accounted : (stateOf (itemAt d s k) ≡ record { number = 0; place = 0; null = x .isNull; code = f .code; length = length (x .value) })
+    pub read-as-accounted : (stateOf (itemAt d s k) ≡ record { number = 0; place = 0; null = x .isNull; code = f .code; lead = length (x .lead); value = length (x .value); spare = length (x .spare) })
         × (lent s (itemAt d s k) ≡ x .value)
         × (wholeNumber d s k ≡ (the (wholeOf (f .type) (x .value)) 18 (startOf xs k) >>= (λ z. ok (x .isNull, if x .isNull then pos 0 else z))))
     unfolding wholeNumber

@@ -36,4 +36,5 @@ pub mod CallRows
 pub mod PackedRows
 pub mod Stars
 pub mod FileRows
+pub mod ThreeParts
 pub mod Demands

@@ -3,25 +3,12 @@ use Prim.Native.Nat.{ℕ, _-_, _≤_}
 use mathlib.Core.Path.{_≡_}
 use mathlib.Core.List.{List, [], _∷_}
 use mathlib.Core.Option.{Option, none, some}
-use lib.ListN.{length, take, drop}
-use Rattle.fdoca.specs.Basics.{big}
-use Rattle.fdoca.specs.FieldType.{Layout, fixed, counted, terminated}
-use Rattle.fdoca.specs.Item.{Field, item, width, beforeZero, measure}
+use lib.ListN.{length, drop}
+use Rattle.fdoca.specs.Item.{Field, item, measure}
 use Rattle.fdoca.specs.Walk.{Note}
 use Rattle.fdoca.specs.Triplet.{Triplet, Kind, tripletsFrom}
 use Rattle.fdoca.specs.Check as C
 use Rattle.fdoca.specs.Unfolding as U
-
--- How long a layout's length field is, and the value whose length it tells, where both stand at the beginning of the bytes s.
-unfoldable pub widthOf : Layout → ℕ
-widthOf fixed = 0
-widthOf (counted k) = width k
-widthOf terminated = 0
-
-unfoldable pub valueLength : Layout → (F : ℕ) → List ℕ → ℕ
-valueLength fixed F s = F
-valueLength (counted k) F s = big (take (width k) s)
-valueLength terminated F s = beforeZero s
 
 -- A note of an item that stands at its start: measured there again, it is what was noted.
 pub record Stands (s : List ℕ) (n : Note) : Type 0 where

@@ -1,5 +1,5 @@
--- What the calls give (document 01, "What the reader carries", "Numbers a caller can meet", "The item list and the dump program"; document 02, Q-1 and
--- Q-5).
+-- What the calls give (document 01, "What the reader carries", "Numbers a caller can meet", "The item list and the dump program"; document 02, Q-1, Q-5
+-- and Q-6).
 use Prim.Native.Nat.{ℕ, _+_, _*_, _^_}
 use mathlib.Core.Bool.{Bool, false, _&&_, _||_, not}
 use mathlib.Core.List.{List, [], _∷_, _++_, map, reverse}
@@ -108,9 +108,10 @@ abbrev pub entriesAfter : List ℕ → Result (List ℕ) → List ℕ
 entriesAfter old (refuse n p) = old
 entriesAfter old (ok l) = l
 
+-- The state of an item: the three lengths that measuring it states (Q-6); a refusal gives three zeros.
 abbrev pub stateOf : Result Note → State
-stateOf (refuse n p) = record { number = n; place = p; null = false; code = 0; length = 0 }
-stateOf (ok i) = record { number = 0; place = 0; null = i .isNull; code = i .field .code; length = i .value }
+stateOf (refuse n p) = record { number = n; place = p; null = false; code = 0; lead = 0; value = 0; spare = 0 }
+stateOf (ok i) = record { number = 0; place = 0; null = i .isNull; code = i .field .code; lead = i .lead; value = i .value; spare = i .spare }
 
 -- The lent part's bytes: none on a null or a refusal. Where an empty part lies 01 leaves free, and the contract of the call says it.
 abbrev pub lent : List ℕ → Result Note → List ℕ

@@ -1,7 +1,11 @@
 -- Where a block's items lie: what the demands say of the items that the walk notes, and of the parts that the standard's account has.
 use Prim.Native.Nat.{ℕ, _+_, _≤_, _<_}
-use mathlib.Core.List.{List, [], _∷_, map}
-use lib.ListN.{length, take, getD}
+use mathlib.Core.Path.{_≡_}
+use mathlib.Core.List.{List, [], _∷_, _++_, map}
+use mathlib.Core.Option.{some}
+use lib.Dec.{ltb}
+use lib.ListN.{length, take, drop, getD, getElem?}
+use Rattle.fdoca.specs.Basics.{if_then_else_}
 use Rattle.fdoca.specs.Item.{Field}
 use Rattle.fdoca.specs.Walk.{Note, itemLength}
 use Rattle.fdoca.specs.Account.{Parts}
@@ -23,6 +27,41 @@ pub record InItem (ns : List Note) (i k : ℕ) : Type 0 where
   pub among : k < length ns
   pub after : getD (map (λ x. x .start) ns) k 0 ≤ i
   pub before : i < getD (map (λ x. x .start) ns) k 0 + getD (lengths ns) k 0
+
+-- The three parts of an item (document 02, Q-6): where each begins in the data, how long it is, and its bytes.
+pub data Part : Type 0 where
+  lead : Part
+  value : Part
+  spare : Part
+
+abbrev pub partStart : Note → Part → ℕ
+partStart i lead = i .start
+partStart i value = i .start + i .lead
+partStart i spare = i .start + i .lead + i .value
+
+abbrev pub partLength : Note → Part → ℕ
+partLength i lead = i .lead
+partLength i value = i .value
+partLength i spare = i .spare
+
+abbrev pub partBytes : List ℕ → Note → Part → List ℕ
+partBytes s i w = take (partLength i w) (drop (partStart i w) s)
+
+-- The bytes of the three parts of all items, in order.
+abbrev pub allParts : List ℕ → List Note → List ℕ
+allParts s [] = []
+allParts s (i ∷ ns) = partBytes s i lead ++ (partBytes s i value ++ (partBytes s i spare ++ allParts s ns))
+
+-- The byte at place b lies in a part of item k.
+pub record InPart (ns : List Note) (b k : ℕ) (w : Part) : Type 0 where
+  pub note : Note
+  pub is-item : getElem? ns k ≡ some note
+  pub after : partStart note w ≤ b
+  pub before : b < partStart note w + partLength note w
+
+-- Where item k ends by the item list l: where the next one starts, or the last one at the block's length.
+abbrev pub endListed : List ℕ → (k : ℕ) → ℕ
+endListed l k = if ltb (1 + k) (getD l 0 0) then getD l (3 + k) 0 else getD l 1 0
 
 -- How many bytes an item's parts have, and those of the items before item k: where it starts.
 abbrev pub size : Parts → ℕ

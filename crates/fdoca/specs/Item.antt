@@ -23,8 +23,8 @@ withSize z f = record { id = f .id; code = f .code; type = f .type; mode = f .mo
 abbrev pub fieldLength : Field → ℕ
 fieldLength f = inBytes (f .size)
 
--- What measuring an item finds: a refusal's number (13, 14, 15), or the null mark and three lengths, which add up to the item's: what
--- precedes the value (null indicator and length field), the value, and what follows it (terminator and reserved space).
+-- What measuring an item finds: a refusal's number (13, 14, 15), or the null mark and three lengths (Q-6), which add up to the item's: the lead, which
+-- precedes the value (null indicator and length field), the value, and the spare, which follows it (terminator and reserved space).
 pub data Measured : Type 0 where
   refused : ℕ → Measured
   item : Bool → ℕ → ℕ → ℕ → Measured

@@ -14,13 +14,15 @@ pub struct Listed {
     pub place: u32,
 }
 
-// An item's state.
+// An item's state: its null mark and type code, and how many bytes precede its value, are its value, and follow it.
 pub struct State {
     pub number: u32,
     pub place: u32,
     pub null: bool,
     pub code: u8,
-    pub length: u32,
+    pub lead: u32,
+    pub value: u32,
+    pub spare: u32,
 }
 
 // A whole-number item.

@@ -1,25 +1,15 @@
 // One item of a data block: whether it is null, and how its bytes are laid out.
 ghost use mathlib.Core.Path.{_≡_};
 ghost use Prim.Native.Nat.{_+_, _<_, _≤_};
-ghost use lib.ListN.{length};
 ghost use Rattle.fdoca.specs.FieldType.{signedTwo, unsignedOne};
 ghost use Rattle.fdoca.specs.Item.{space, measureFixed, measureCounted, measureValue, measureItem};
-ghost use Rattle.fdoca.specs.Between.{widthOf, valueLength};
 ghost use Rattle.field_types.specs.Rows.{layoutOf};
 ghost use Rattle.terminated.specs.Answer.{answer};
 ghost use Rattle.items.specs.Answer.{measureSent, measureRanged, measureIndicator, movedBy};
-ghost use Rattle.items.specs.Known.{Good, PartsOf};
 use terminated::Measured;
 use terminated::SHORT_DATA;
 use terminated::found;
 use terminated::refusal;
-
-// An item up to its value's end: the null mark, how many bytes precede the value, and how many it has.
-pub struct Parts {
-    pub null: bool,
-    pub lead: usize,
-    pub value: usize,
-}
 
 // The length field is below 0, or over a field length above 0.
 const BAD_COUNT: u8 = 14;
@@ -156,55 +146,4 @@ pub fn measure(s: &[u8], nullable: bool, layout: u8, mode: u8, f: usize) -> Meas
     }
     let skip = told.lead;
     behind(value(&s[skip..], layout, mode, f), skip)
-}
-
-// How long the length field of a layout is.
-fn width(layout: u8) -> usize
-    ensures { λ r. ⌜ (r ≡ widthOf (layoutOf layout)) × (r ≤ 2) ⌝ }
-{
-    if layout == 1 {
-        return 1;
-    }
-    if layout == 2 {
-        return 2;
-    }
-    0
-}
-
-// How long a value is, at its length field or, without one, its first byte.
-fn value_length(s: &[u8], layout: u8, f: usize) -> usize
-    requires { ⌜ widthOf (layoutOf layout) ≤ length (now s) ⌝ }
-    ensures { λ r. ⌜ r ≡ valueLength (layoutOf layout) f (now (s .entry)) ⌝ }
-{
-    if layout == 0 {
-        return f;
-    }
-    if layout == 1 {
-        return numbers::wide(s[0]);
-    }
-    if layout == 2 {
-        return numbers::pair(s[0], s[1]);
-    }
-    terminated::first_zero(s)
-}
-
-// The parts of an item that is known to be good.
-pub fn good_parts(s: &[u8], nullable: bool, layout: u8, f: usize) -> Parts
-    requires { ⌜ Good nullable (layoutOf layout) f (now s) ⌝ }
-    ensures { λ r. ⌜ PartsOf nullable (layoutOf layout) f (now (s .entry)) r ⌝ }
-{
-    let head = indicator(s, nullable);
-    if head.null {
-        return Parts {
-            null: true,
-            lead: head.lead,
-            value: head.value,
-        };
-    }
-    let skip = head.lead;
-    Parts {
-        null: false,
-        lead: skip + width(layout),
-        value: value_length(&s[skip..], layout, f),
-    }
 }

@@ -27,8 +27,8 @@ use Rattle.lookups.specs.Answer.{itemIn, FoundAs}
 pub nothing-found : (x : Result Note) (s : List ℕ) (n p : ℕ) (r : Found) → x ≡ refuse n p → r ≡ foundOf (refuse n p) → FoundAs x s r
 unfolding foundOf
 nothing-found x s n p r e q =
-    let a : r .start + r .lead + r .value ≤ length s = rw q (omega arith) in
-    let b : r .start + r .lead + r .value ≤ 32768 = rw q (omega arith) in
+    let a : r .start + r .lead + r .value + r .spare ≤ length s = rw q (omega arith) in
+    let b : r .start + r .lead + r .value + r .spare ≤ 32768 = rw q (omega arith) in
     rw e (record { found = q; inside = a; small = b; state = rw q; digits = λ m z. absurd (let z : _≡_ {A = ℕ} 0 1 = cc in let w : ⊥ = omega arith in w) })
 
 -- an item's mark in a marked plan

@@ -18,7 +18,7 @@ itemIn d s k = itemsOf d s >>= λ ns. the (getElem? ns k) 17 0
 -- What was found of an item of the data s: it lies within the data, and its entry tells of its field's digits.
 pub record FoundAs (x : Result Note) (s : List ℕ) (r : Found) : Type 0 where
   pub found : r ≡ foundOf x
-  pub inside : r .start + r .lead + r .value ≤ length s
-  pub small : r .start + r .lead + r .value ≤ 32768
+  pub inside : r .start + r .lead + r .value + r .spare ≤ length s
+  pub small : r .start + r .lead + r .value + r .spare ≤ 32768
   pub state : stateFound r ≡ stateOf x
   pub digits : (n : Note) → x ≡ ok n → r .entry / 4398046511104 % 64 ≡ digitsPart (n .field .size)

@@ -30,6 +30,7 @@ fn not_found(number: u32, place: u32) -> Found
         null: false,
         lead: 0,
         value: 0,
+        spare: 0,
         entry: 0,
     }
 }

@@ -42,14 +42,16 @@ as-number : (t : Bool) → boolByte t ≡ mark t
 as-number true = refl
 as-number false = refl
 
-pub state-given : {x : Result Note} {r : State} → r ≡ stateOf x → StateGiven x (r .number) (r .place) (boolByte (r .null)) (r .code) (r .length)
+pub state-given : {x : Result Note} {r : State} → r ≡ stateOf x → StateGiven x (r .number) (r .place) (boolByte (r .null)) (r .code) (r .lead) (r .value) (r .spare)
 state-given {r = r} e =
     record {
       returned = ap (λ (a : State). a .number) e;
       placed = ap (λ (a : State). a .place) e;
       marked = as-number (r .null) ∙ ap (λ (a : State). mark (a .null)) e;
       coded = ap (λ (a : State). a .code) e;
-      sized = ap (λ (a : State). a .length) e;
+      led = ap (λ (a : State). a .lead) e;
+      sized = ap (λ (a : State). a .value) e;
+      spared = ap (λ (a : State). a .spare) e;
     }
 
 pub lent-given : {x : Result Note} {s : List ℕ} {r : Lent} → (r ≡ lentAt x) × (r .offset + r .length ≤ length s)

@@ -27,13 +27,15 @@ pub record ListGiven (x : Result (List ℕ)) (old : List ℕ) (number place : �
 abbrev pub mark : Bool → ℕ
 mark null = if null then 1 else 0
 
--- The state of the item x.
-pub record StateGiven (x : Result Note) (number place null code value : ℕ) : Type 0 where
+-- The state of the item x, with its three lengths.
+pub record StateGiven (x : Result Note) (number place null code lead value spare : ℕ) : Type 0 where
   pub returned : number ≡ stateOf x .number
   pub placed : place ≡ stateOf x .place
   pub marked : null ≡ mark (stateOf x .null)
   pub coded : code ≡ stateOf x .code
-  pub sized : value ≡ stateOf x .length
+  pub led : lead ≡ stateOf x .lead
+  pub sized : value ≡ stateOf x .value
+  pub spared : spare ≡ stateOf x .spare
 
 -- Where the value of the item x lies in the data s: within them, also where it is empty.
 pub record LentGiven (x : Result Note) (s : List ℕ) (number place offset size : ℕ) : Type 0 where

@@ -30,7 +30,7 @@ pub extern "C" fn fdoca_list(
     listed.number
 }
 
-// Tells an item's state: null mark, type code, value length.
+// Tells an item's state: null mark, type code, and the lengths of its lead, its value and its spare.
 #[no_mangle]
 pub extern "C" fn fdoca_state(
     descriptor: &[u8],
@@ -39,15 +39,19 @@ pub extern "C" fn fdoca_state(
     place: &mut u32,
     is_null: &mut u32,
     type_code: &mut u32,
+    lead: &mut u32,
     value: &mut u32,
+    spare: &mut u32,
 ) -> u32
-    ensures { λ r. ⌜ StateGiven (calls.itemAt (now (descriptor .entry)) (now («data» .entry)) item) r (now (place .exit)) (now («is_null» .exit)) (now («type_code» .exit)) (now (value .exit)) ⌝ }
+    ensures { λ r. ⌜ StateGiven (calls.itemAt (now (descriptor .entry)) (now («data» .entry)) item) r (now (place .exit)) (now («is_null» .exit)) (now («type_code» .exit)) (now (lead .exit)) (now (value .exit)) (now (spare .exit)) ⌝ }
 {
     let state = blocks::state(descriptor, data, item);
     *place = state.place;
     *is_null = state.null as u32;
     *type_code = state.code as u32;
-    *value = state.length;
+    *lead = state.lead;
+    *value = state.value;
+    *spare = state.spare;
     state.number
 }
 

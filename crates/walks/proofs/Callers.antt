@@ -85,7 +85,7 @@ sound-item s ns p t m k = go (getElem? ns k) refl
         let w : Sound s n = record { inside = omega (arith, item-inside 0 ns k n p q); proper = item-proper m k n q } in
         holds w
 
-inside-of : (s : List ℕ) (x : Result Note) → IfOk (Sound s) x → foundOf x .start + foundOf x .lead + foundOf x .value ≤ length s
+inside-of : (s : List ℕ) (x : Result Note) → IfOk (Sound s) x → foundOf x .start + foundOf x .lead + foundOf x .value + foundOf x .spare ≤ length s
 unfolding foundOf
 inside-of s (refuse n p) h = omega arith
 inside-of s (ok n) (holds h) = omega (arith, h .inside)
@@ -96,7 +96,7 @@ state-of s (refuse n p) h = refl
 state-of s (ok n) (holds h) = rw (entry-code (n .field) (h .proper))
 
 module _ (s : List ℕ) (x : Result Note) (w : IfOk (Sound s) x) (r : Found) (h : r ≡ foundOf x) where
-  pub found-inside : r .start + r .lead + r .value ≤ length s
+  pub found-inside : r .start + r .lead + r .value + r .spare ≤ length s
   found-inside = rw h (inside-of s x w)
 
   pub found-state : stateFound r ≡ stateOf x

@@ -1,22 +1,22 @@
 -- An item by its mark, where the walk has found the block good.
 -- Assumes nothing.
-use Prim.Native.Nat.{ℕ, _-_, _/_, _%_, _≤_}
-use mathlib.Core.Path.{_≡_, ap, _∙_}
-use mathlib.Core.List.{List}
-use lib.ListN.{length, take, drop}
-use borrow.Rule.Slice.PartAt.{part-to-end}
-use Rattle.fdoca.specs.Basics.{_>>=_}
-use Rattle.fdoca.specs.FieldType.{nullable}
-use Rattle.fdoca.specs.Item.{item, measureItem}
-use Rattle.fdoca.specs.Walk.{Note}
-use Rattle.field_types.specs.Rows.{layoutOf}
-use Rattle.items.specs.declared.Parts.{Parts}
-use Rattle.items.specs.Known.{Good, PartsOf}
-use Rattle.fields.specs.Plan.{entryOf}
-use Rattle.walks.specs.Entry.{measureEntry}
-use Rattle.walks.specs.Marks.{markOf}
-use Rattle.walks.specs.Finding.{foundOf, MarkIn, IsMark, FoundBy}
-use Rattle.walks.proofs.Parts.{entry-part, mark-part, entry-measures}
+use Prim.Native.Nat.{ℕ, _+_, _/_, _%_, _≤_}
+use mathlib.Core.Path.{_≡_, refl, sym, ap, _∙_}
+use mathlib.Core.Bool.{Bool, true, false}
+use mathlib.Core.List.{List, [], _∷_}
+use native.Mathlib.Omega.{arith}
+use lib.Dec.{eqb}
+use lib.ListN.{length, drop}
+use borrow.Author.Tests.{eqb-true, eqb-false}
+use Rattle.fdoca.specs.Basics.{ok}
+use Rattle.fdoca.specs.Item.{Field, item}
+use Rattle.fdoca.specs.Walk.{Note, itemLength, Cut, noteOf, with, cutFrom}
+use Rattle.terminated.specs.Answer.{answer}
+use Rattle.fields.specs.Plan.{entryOf, Planned, empty, entry}
+use Rattle.walks.specs.declared.Reached.{Reached}
+use Rattle.walks.specs.Marks.{markOf, lastOf, MarkedPart}
+use Rattle.walks.specs.Finding.{foundOf, IsPlan, MarkIn, IsMark, FoundBy}
+use Rattle.walks.proofs.Parts.{entry-part, mark-part}
 
 -- the item of a mark, by the mark's parts
 module _ (s : List ℕ) (e : ℕ) (n : Note) (h : MarkIn s e n) where
@@ -28,37 +28,48 @@ module _ (s : List ℕ) (e : ℕ) (n : Note) (h : MarkIn s e n) where
   unfolding markOf
   entry-is = rw (h .mark) (entry-part (n .field) (n .start) (h .proper))
 
-  here : take (length s - e / 281474976710656) (drop (e / 281474976710656) s) ≡ drop (n .start) s
-  here = rw start-is (part-to-end s (n .start))
+  alone : Planned (e % 281474976710656 ∷ []) (n .field ∷ [])
+  alone = rw entry-is (entry (h .proper) empty)
 
-  item-here : measureItem (nullable (e / 16777216 % 256)) (layoutOf (e / 1099511627776 % 4)) (e / 4294967296 % 256) (e % 65536) (take (length s - e / 281474976710656) (drop (e / 281474976710656) s))
-      ≡ item (n .isNull) (n .lead) (n .value) (n .spare)
-  unfolding measureEntry markOf
-  item-here = rw here (ap (λ y. measureEntry y (drop (n .start) s)) (h .mark) ∙ entry-measures (n .field) (n .start) (drop (n .start) s) (h .proper) ∙ h .stands .measured)
+  cut-alone : cutFrom (e / 281474976710656) (n .field ∷ []) (drop (e / 281474976710656) s) ≡ ok (with n (record { notes = []; end = n .start + itemLength n; rest = drop (itemLength n) (drop (n .start) s) }))
+  unfolding cutFrom noteOf
+  cut-alone = rw (start-is, h .stands .measured)
 
-module _ (s : List ℕ) (e : ℕ) (h : IsMark s e) where
-  pub mark-inside : e / 281474976710656 ≤ length s
-  mark-inside = rw (start-is s e (h .note) (h .mark-in)) (h .mark-in .stands .starts)
+pub mark-inside : (s : List ℕ) (e : ℕ) → IsMark s e → e / 281474976710656 ≤ length s
+mark-inside s e h = rw (start-is s e (h .note) (h .mark-in)) (h .mark-in .stands .starts)
 
-  pub mark-good : Good (nullable (e / 16777216 % 256)) (layoutOf (e / 1099511627776 % 4)) (e % 65536) (take (length s - e / 281474976710656) (drop (e / 281474976710656) s))
-  mark-good =
-      record {
-        mode = e / 4294967296 % 256;
-        isNull = h .note .isNull;
-        lead = h .note .lead;
-        value = h .note .value;
-        spare = h .note .spare;
-        measured = item-here s e (h .note) (h .mark-in);
-      }
+pub mark-alone : (s : List ℕ) (e : ℕ) → IsMark s e → IsPlan (e % 281474976710656 ∷ [])
+mark-alone s e h = record { fields = h .note .field ∷ []; planned = alone s e (h .note) (h .mark-in) }
 
-pub mark-found : (s : List ℕ) (e : ℕ) (r : Parts)
-    → PartsOf (nullable (e / 16777216 % 256)) (layoutOf (e / 1099511627776 % 4)) (e % 65536) (take (length s - e / 281474976710656) (drop (e / 281474976710656) s)) r
-    → FoundBy s e (record { number = 0; place = 0; start = e / 281474976710656; null = r .null; lead = r .lead; value = r .value; entry = e % 281474976710656 })
-unfolding foundOf
-mark-found s e r h =
-    record {
-      each = λ n m.
-          let q : r ≡ record { null = n .isNull; lead = n .lead; value = n .value } =
-          h .each (e / 4294967296 % 256) (n .isNull) (n .lead) (n .value) (n .spare) (item-here s e n m) in
-          rw (start-is s e n m, entry-is s e n m, q);
-    }
+ok-of-ok : {c d : Cut} → ok c ≡ ok d → c ≡ d
+ok-of-ok e = cc
+
+-- the walk over a mark's entry alone has measured its item
+module _ (s : List ℕ) (e : ℕ) (r : Reached) (part : List ℕ) (each : (fs : List Field) → Planned (e % 281474976710656 ∷ []) fs → MarkedPart r (e / 281474976710656) part fs s) where
+  last-alone : (n : Note) → MarkIn s e n → r .last ≡ answer (item (n .isNull) (n .lead) (n .value) (n .spare))
+  unfolding lastOf
+  last-alone n h = go (eqb (r .last .number) 0) refl
+    where
+      x : MarkedPart r (e / 281474976710656) part (n .field ∷ []) s
+      x = each (n .field ∷ []) (alone s e n h)
+
+      go : (b : Bool) → eqb (r .last .number) 0 ≡ b → r .last ≡ answer (item (n .isNull) (n .lead) (n .value) (n .spare))
+      go true t =
+          let y = x .through (eqb-true (r .last .number) 0 t) in
+          let q : y .notes ≡ n ∷ [] = ap (λ c. c .notes) (ok-of-ok (sym (y .cut) ∙ cut-alone s e n h)) in
+          y .last-is ∙ ap lastOf q
+      go false t = let y = x .stops (eqb-false (r .last .number) 0 t) in let c = cut-alone s e n h in absurd (let z : _≡_ {A = ℕ} 0 1 = cc in let w : ⊥ = omega arith in w)
+
+  pub mark-found : FoundBy s e
+      (record {
+        number = 0;
+        place = 0;
+        start = e / 281474976710656;
+        null = r .last .null;
+        lead = r .last .lead;
+        value = r .last .value;
+        spare = r .last .spare;
+        entry = e % 281474976710656;
+      })
+  unfolding foundOf answer
+  mark-found = record { each = λ n h. rw (start-is s e n h, entry-is s e n h, last-alone n h) }

@@ -14,12 +14,12 @@ use Rattle.walks.specs.Marks.{markOf}
 
 -- A refusal has its number and place, zeros and no null mark; an item has number 0 and place 0.
 unfoldable pub foundOf : Result Note → Found
-foundOf (refuse n p) = record { number = n; place = p; start = 0; null = false; lead = 0; value = 0; entry = 0 }
-foundOf (ok n) = record { number = 0; place = 0; start = n .start; null = n .isNull; lead = n .lead; value = n .value; entry = entryOf (n .field) }
+foundOf (refuse n p) = record { number = n; place = p; start = 0; null = false; lead = 0; value = 0; spare = 0; entry = 0 }
+foundOf (ok n) = record { number = 0; place = 0; start = n .start; null = n .isNull; lead = n .lead; value = n .value; spare = n .spare; entry = entryOf (n .field) }
 
 -- The state call's answer, by what was found.
 abbrev pub stateFound : Found → State
-stateFound r = record { number = r .number; place = r .place; null = r .null; code = r .entry / 16777216 % 256; length = r .value }
+stateFound r = record { number = r .number; place = r .place; null = r .null; code = r .entry / 16777216 % 256; lead = r .lead; value = r .value; spare = r .spare }
 
 -- The numbers es are a plan.
 pub record IsPlan (es : List ℕ) : Type 0 where

@@ -8,10 +8,12 @@ ghost use Rattle.fdoca.specs.Basics.{refuse};
 ghost use Rattle.fdoca.specs.Item.{Field};
 ghost use Rattle.terminated.specs.Answer.{answer};
 ghost use Rattle.fields.specs.Plan.{Planned};
-ghost use Rattle.walks.specs.Entry.{measureEntry, isPlain, Stepped};
+ghost use Rattle.walks.specs.Entry.{measureEntry};
 ghost use Rattle.walks.specs.Marks.{MarkedPart, Marked, listBy};
 ghost use Rattle.walks.specs.Finding.{IsPlan, IsMark, FoundBy};
 ghost use Rattle.walks.specs.Passes.{unmarked, Apart, PassPlan, IsPassPlan, MarkedPasses, RowPlan, IsRowPlan, MarkedRows};
+use terminated::Measured;
+use terminated::found;
 
 // Where the walk stops: number and place of a refusal, zeros if the block is good.
 pub struct Stop {
@@ -34,6 +36,7 @@ pub struct Found {
     pub null: bool,
     pub lead: usize,
     pub value: usize,
+    pub spare: usize,
     pub entry: u64,
 }
 
@@ -49,11 +52,8 @@ const LAYOUT: u64 = 1099511627776;
 
 const POSITION: u64 = 281474976710656;
 
-// More than any item's length.
-const REFUSED: usize = 65536;
-
 // The item at a place of the data, by its entry in the plan. It lies within the data.
-pub fn item_at(entry: u64, data: &[u8], at: usize) -> terminated::Measured
+pub fn item_at(entry: u64, data: &[u8], at: usize) -> Measured
     requires { ⌜ at ≤ length (now «data») ⌝ }
     ensures { λ r. ⌜ (r ≡ answer (measureEntry entry (drop at (now («data» .entry))))) × (at + (r .lead + r .value + r .spare) ≤ length (now («data» .entry))) ⌝ }
 {
@@ -65,58 +65,27 @@ pub fn item_at(entry: u64, data: &[u8], at: usize) -> terminated::Measured
 }
 
 // The walk's answer, with a place in the data.
-fn stopped(number: u32, at: usize) -> Stop
+fn stopped(number: u8, at: usize) -> Stop
     requires { ⌜ at ≤ 32768 ⌝ }
     ensures { λ r. ⌜ r ≡ record { number = number; place = at } ⌝ }
 {
     Stop {
-        number: number,
+        number: number as u32,
         place: at as u32,
     }
 }
 
-// Whether the items of an entry are F bytes without a null indicator.
-fn plain(entry: u64) -> bool
-    ensures { λ r. ⌜ r ≡ isPlain entry ⌝ }
-{
-    if 128 <= entry / CODE % 256 {
-        return false;
-    }
-    entry / LAYOUT % 4 == 0
-}
-
-// The length of the item at a place of the data, or REFUSED and the number of its refusal.
-fn step_at(entry: u64, data: &[u8], at: usize) -> usize
-    requires { ⌜ (at ≤ length (now «data»)) × (length (now «data») ≤ 32768) ⌝ }
-    ensures { λ r. ⌜ Stepped entry (now («data» .entry)) at r ⌝ }
-{
-    if plain(entry) {
-        let f = (entry % ID) as usize;
-        if f <= data.len() - at {
-            return f;
-        }
-        return REFUSED + 13;
-    }
-    let m = item_at(entry, data, at);
-    if m.number != 0 {
-        return REFUSED + m.number as usize;
-    }
-    m.lead + m.value + m.spare
-}
-
-// Where the walk over a part of a plan has come to: the place behind its last item, or an item's refusal and the item's place.
+// Where the walk over a part of a plan has come to: the place behind its last item, and how that was measured; or an item's refusal and the
+// item's place.
 pub struct Reached {
-    pub number: u32,
+    pub last: Measured,
     pub at: usize,
 }
 
-fn came_to(number: u32, at: usize) -> Reached
-    ensures { λ r. ⌜ r ≡ record { number = number; at = at } ⌝ }
+fn came_to(last: Measured, at: usize) -> Reached
+    ensures { λ r. ⌜ r ≡ record { last = last; at = at } ⌝ }
 {
-    Reached {
-        number: number,
-        at: at,
-    }
+    Reached { last: last, at: at }
 }
 
 // The walk over a part of a plan, from a place of the data on. The entry of an item gets its position in the highest 16 bits, up to the item that
@@ -127,18 +96,19 @@ fn mark_part(part: &mut [u64], data: &[u8], from: usize) -> Reached
     ensures { λ r. ⌜ r .at ≤ length (now («data» .entry)) ⌝ }
 {
     let mut at = from;
+    let mut last = found(0, 0, 0);
     let mut k = 0;
     while k < part.len() {
         let entry = part[k];
-        let step = step_at(entry, data, at);
-        if REFUSED <= step {
-            return came_to((step - REFUSED) as u32, at);
+        last = item_at(entry, data, at);
+        if last.number != 0 {
+            return came_to(last, at);
         }
         part[k] = entry % POSITION + at as u64 * POSITION;
-        at += step;
+        at += last.lead + last.value + last.spare;
         k += 1;
     }
-    came_to(0, at)
+    came_to(last, at)
 }
 
 // The walk over the whole plan and the data.
@@ -147,8 +117,8 @@ pub fn mark(plan: &mut [u64], data: &[u8]) -> Stop
     ensures { λ r. ⌜ ((fs : List Field) → Planned (now (plan .entry)) fs → Marked r (now (plan .exit)) fs (now («data» .entry))) ⌝ }
 {
     let r = mark_part(plan, data, 0);
-    if r.number != 0 {
-        return stopped(r.number, r.at);
+    if r.last.number != 0 {
+        return stopped(r.last.number, r.at);
     }
     if r.at < data.len() {
         return stopped(16, r.at);
@@ -157,12 +127,12 @@ pub fn mark(plan: &mut [u64], data: &[u8]) -> Stop
 }
 
 // The answer of a walk over rows to the end, with a place in the data.
-fn ended(number: u32, at: usize, count: usize) -> Passed
+fn ended(number: u8, at: usize, count: usize) -> Passed
     requires { ⌜ at ≤ 32768 ⌝ }
     ensures { λ r. ⌜ r ≡ record { number = number; place = at; count = count } ⌝ }
 {
     Passed {
-        number: number,
+        number: number as u32,
         place: at as u32,
         count: count,
     }
@@ -198,8 +168,8 @@ fn mark_passes(plan: &mut [u64], before: usize, once: usize, data: &[u8], from: 
         copy_pass(plan, before, k, m);
         let end = k + m;
         let r = mark_part(&mut plan[k..end], data, at);
-        if r.number != 0 {
-            return ended(r.number, r.at, 0);
+        if r.last.number != 0 {
+            return ended(r.last.number, r.at, 0);
         }
         if m < once {
             return ended(10, r.at, 0);
@@ -217,8 +187,8 @@ pub fn mark_rows(plan: &mut [u64], before: usize, once: usize, data: &[u8]) -> P
         → MarkedRows r (now (plan .entry)) (now (plan .exit)) bs rows (now («data» .entry))) ⌝ }
 {
     let first = mark_part(&mut plan[..before], data, 0);
-    if first.number != 0 {
-        return ended(first.number, first.at, 0);
+    if first.last.number != 0 {
+        return ended(first.last.number, first.at, 0);
     }
     mark_passes(plan, before, once, data, first.at)
 }
@@ -247,23 +217,24 @@ pub fn write_list(plan: &[u64], size: usize, list: &mut [u32])
     }
 }
 
-// The item of a marked entry in a good block.
+// The item of a marked entry in a good block: the walk over that entry alone, from the item's position on, tells its parts.
 pub fn item_of(marked: u64, data: &[u8]) -> Found
-    requires { ⌜ IsMark (now «data») marked ⌝ }
+    requires { ⌜ IsMark (now «data») marked × (length (now «data») ≤ 32768) ⌝ }
     ensures { λ r. ⌜ FoundBy (now («data» .entry)) marked r ⌝ }
 {
     let start = (marked / POSITION) as usize;
-    let nullable = 128 <= marked / CODE % 256;
-    let layout = (marked / LAYOUT % 4) as u8;
-    let f = (marked % ID) as usize;
-    let parts = items::good_parts(&data[start..], nullable, layout, f);
+    let entry = marked % POSITION;
+    let mut alone = [entry; 1];
+    let r = mark_part(&mut alone, data, start);
+    let m = r.last;
     Found {
         number: 0,
         place: 0,
         start: start,
-        null: parts.null,
-        lead: parts.lead,
-        value: parts.value,
-        entry: marked % POSITION,
+        null: m.null,
+        lead: m.lead,
+        value: m.value,
+        spare: m.spare,
+        entry: entry,
     }
 }

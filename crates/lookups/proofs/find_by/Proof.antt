@@ -31,7 +31,7 @@ slice-read-item-of : tie.Need-slice-read-item-of
 slice-read-item-of c = search needs
 
 item-of-requires : tie.Need-item-of-requires
-item-of-requires c κs = search (find-mark)
+item-of-requires c κs = search (needs, find-mark)
 
 same-length-3 : tie.Need-same-length-3
 same-length-3 c = search needs

@@ -4,16 +4,18 @@ use borrow.Author.Needs.{needs, set-long}
 use Prim.Native.Nat.{_≤_, _-_}
 use mathlib.Core.Path.{_≡_}
 use lib.ListN.{length}
-use Rattle.walks.proofs.Steps.{step-inside}
 use Rattle.walks.proofs.Marking.{Marking, mark-start, mark-more, mark-stop, mark-done, reached-inside}
 use Rattle.walks.proofs.mark_part.Statement.{statement}
 use Rattle.walks.proofs.mark_part.Tie as tie
 
 abbrev Inv-loop : tie.InvT-loop
-Inv-loop part₀ «data» from at₀ k₀ part at k = (k ≤ length part₀) × ((at ≤ length «data») × ((length part ≡ length part₀) × Marking from part₀ «data» part at k))
+Inv-loop part₀ «data» from at₀ last₀ k₀ part at last k = (k ≤ length part₀) × ((at ≤ length «data») × ((length part ≡ length part₀) × Marking from part₀ «data» part at k last))
 
 abbrev μ-loop : tie.MeasureT-loop
-μ-loop part₀ «data» from at₀ k₀ part at k = length part₀ - k
+μ-loop part₀ «data» from at₀ last₀ k₀ part at last k = length part₀ - k
+
+found-requires : tie.Need-found-requires Inv-loop μ-loop
+found-requires c κs = search needs
 
 loop-holds : tie.Need-loop-holds Inv-loop μ-loop
 loop-holds c = search (needs, mark-start)
@@ -24,11 +26,8 @@ mul-entry c = search needs
 slice-read-entry : tie.Need-slice-read-entry Inv-loop μ-loop
 slice-read-entry c = search needs
 
-step-at-requires : tie.Need-step-at-requires Inv-loop μ-loop
-step-at-requires c κs = search needs
-
-cast-came-to : tie.Need-cast-came-to Inv-loop μ-loop
-cast-came-to c = search needs
+item-at-requires : tie.Need-item-at-requires Inv-loop μ-loop
+item-at-requires c κs = search needs
 
 came-to-requires : tie.Need-came-to-requires Inv-loop μ-loop
 came-to-requires c κs = search needs
@@ -54,6 +53,12 @@ slice-write-part c = search needs
 add-at : tie.Need-add-at Inv-loop μ-loop
 add-at c = search needs
 
+add-at-2 : tie.Need-add-at-2 Inv-loop μ-loop
+add-at-2 c = search needs
+
+add-at-3 : tie.Need-add-at-3 Inv-loop μ-loop
+add-at-3 c = search needs
+
 add-k : tie.Need-add-k Inv-loop μ-loop
 add-k c = search needs
 
@@ -61,7 +66,7 @@ loop-less : tie.Need-loop-less Inv-loop μ-loop
 loop-less c = search needs
 
 loop-again : tie.Need-loop-again Inv-loop μ-loop
-loop-again c = (search needs, (search (needs, step-inside), (search (needs, set-long), search mark-more)))
+loop-again c = (search needs, (search needs, (search (needs, set-long), search mark-more)))
 
 came-to-requires-2 : tie.Need-came-to-requires-2 Inv-loop μ-loop
 came-to-requires-2 c κs = search needs
@@ -78,11 +83,11 @@ mark-part-spec =
     (tie.spec
     Inv-loop
     μ-loop
+    found-requires
     loop-holds
     mul-entry
     slice-read-entry
-    step-at-requires
-    cast-came-to
+    item-at-requires
     came-to-requires
     same-length
     returns
@@ -91,6 +96,8 @@ mark-part-spec =
     mul-part-2
     slice-write-part
     add-at
+    add-at-2
+    add-at-3
     add-k
     loop-less
     loop-again
