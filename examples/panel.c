@@ -5,7 +5,8 @@
  *
  * A block file holds the descriptor's size and the data's size, four bytes each, most significant byte first, then the
  * descriptor, then the data. Each item is printed as its SDA's id and its value: text in quotes, a whole number, a packed
- * decimal with its point, the bytes of a float in hexadecimal, or null. The column is every item whose SDA has the id ID,
+ * decimal with its point, the bytes of a float in hexadecimal, or null. Behind a text stands how many bytes its field has
+ * left for more text, if there are any: a label printer needs that. The column is every item whose SDA has the id ID,
  * 1 to 255, written as 177 or 0xB1; there must be one, and all must have the same count of fraction digits. A refusal
  * is told in words, with its number and place, on standard error. A packed decimal with bad digits is printed as refused,
  * and the rows go on, but no column is summed. Exit status: 0 all accepted; 1 a refusal; 2 anything else that went wrong.
@@ -34,9 +35,10 @@ struct decimal {
     uint32_t fraction_digits;
 };
 
-/* What the calls tell of one item: the number if it is one, else where its value lies in the data. */
+/* What the calls tell of one item: the number if it is one, else where its value lies in the data; and how many bytes follow
+ * the value. */
 struct item {
-    uint32_t is_null, type_code;
+    uint32_t is_null, type_code, spare;
     struct decimal number;
     uint32_t offset, length;
 };
@@ -140,10 +142,10 @@ static bool is_float(uint32_t type_code)
 
 static uint32_t ask_state(const struct block *block, uint32_t k, uint32_t *place, struct item *item)
 {
-    uint32_t length;
+    uint32_t lead, value;
 
     return fdoca_state(block->descriptor, block->descriptor_size, block->data, block->data_size, k, place,
-                       &item->is_null, &item->type_code, &length);
+                       &item->is_null, &item->type_code, &lead, &value, &item->spare);
 }
 
 /* Asks by the item's type code. An item that is no number is refused. */
@@ -198,6 +200,18 @@ static void print_text(const uint8_t *bytes, uint32_t length)
     printf("\"");
 }
 
+/* The text, and how many more bytes of text its field could hold: the spare bytes behind it, but for the zero byte that ends
+ * a terminated string. A field without reserved space has none in the block, whatever its length. */
+static void print_string(const struct block *block, const struct item *item)
+{
+    bool terminated = fdoca_plain_type(item->type_code) == FDOCA_TYPE_TERMINATED;
+    uint32_t left = terminated ? item->spare - 1 : item->spare;
+
+    print_text(block->data + item->offset, item->length);
+    if (left > 0)
+        printf(" (%" PRIu32 " left)", left);
+}
+
 static void print_hexadecimal(const uint8_t *bytes, uint32_t length)
 {
     printf("X'");
@@ -215,7 +229,7 @@ static void print_value(const struct block *block, const struct item *item)
     else if (is_float(item->type_code))
         print_hexadecimal(block->data + item->offset, item->length);
     else
-        print_text(block->data + item->offset, item->length);
+        print_string(block, item);
 }
 
 static int print_item(const struct block *block, uint32_t k)

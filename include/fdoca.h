@@ -190,23 +190,29 @@ uint32_t fdoca_list(const uint8_t *descriptor, size_t descriptor_size, const uin
                     uint32_t *list, size_t list_size, uint32_t *place);
 
 /*
- * Tells an item's state.
+ * Tells an item's state, and the lengths of its three parts.
  *
  * item: the item's number, from 0.
  * is_null: 1 if the item is null, else 0.
  * type_code: the code of its field type or of the nullable form (enum fdoca_type).
- * value: the length of its value in bytes, without what stands before the value and behind it; 0 if the item is null.
+ * lead: how many bytes stand before the value: the null indicator of a nullable form, and the length field of a variable or
+ * a short string, of two bytes or one.
+ * value: how many bytes the value has.
+ * spare: how many bytes stand behind the value: the zero byte behind a terminated string, which is no room for text, and what
+ * a string leaves of the space that is reserved for it.
+ * The three add up to the item's length. A null is its indicator alone: 1, 0 and 0. A refusal gives three zeros.
  * Refuses by 1 to 11, 13 to 17, 21 and 22.
  */
 uint32_t fdoca_state(const uint8_t *descriptor, size_t descriptor_size, const uint8_t *data, size_t data_size,
-                     uint32_t item, uint32_t *place, uint32_t *is_null, uint32_t *type_code, uint32_t *value);
+                     uint32_t item, uint32_t *place, uint32_t *is_null, uint32_t *type_code, uint32_t *lead,
+                     uint32_t *value, uint32_t *spare);
 
 /*
  * Tells where in the data an item's value lies.
  *
  * item: the item's number, from 0.
- * offset: where the value begins; that of a null is right behind its null indicator.
- * length: how many bytes it has, 0 if the item is null.
+ * offset: where the value begins, behind the item's lead; that of a null is right behind its null indicator.
+ * length: how many bytes it has, as fdoca_state tells; 0 if the item is null.
  * Neither offset nor offset + length is over data_size, also on a refusal.
  * Refuses by 1 to 11, 13 to 17, 21 and 22, as fdoca_state does.
  */
@@ -338,12 +344,12 @@ static inline uint32_t fdoca_list_null_ok(const uint8_t *descriptor, size_t desc
 
 static inline uint32_t fdoca_state_null_ok(const uint8_t *descriptor, size_t descriptor_size, const uint8_t *data,
                                            size_t data_size, uint32_t item, uint32_t *place, uint32_t *is_null,
-                                           uint32_t *type_code, uint32_t *value)
+                                           uint32_t *type_code, uint32_t *lead, uint32_t *value, uint32_t *spare)
 {
     const uint8_t none = 0;
 
     return fdoca_state(descriptor_size == 0 ? &none : descriptor, descriptor_size, data_size == 0 ? &none : data,
-                       data_size, item, place, is_null, type_code, value);
+                       data_size, item, place, is_null, type_code, lead, value, spare);
 }
 
 static inline uint32_t fdoca_lend_null_ok(const uint8_t *descriptor, size_t descriptor_size, const uint8_t *data,

@@ -64,10 +64,13 @@ impl Reader {
         let mut number = 0;
         walk(&self.fields, data, |field, _, measured| {
             if number == item {
+                let [lead, value, spare] = field.parts(measured).map(|length| length as u32);
                 state = Ok(State {
                     is_null: measured.is_null,
                     type_code: field.type_code,
-                    value_length: measured.value as u32,
+                    lead,
+                    value,
+                    spare,
                 });
             }
             number += 1;

@@ -219,7 +219,7 @@ static void test_largest_list(void)
     s.at[FDOCA_MAX_DATA - 1] = 7;
     expect(FDOCA_LIST_SIZE(items_of(runs)) == FDOCA_MAX_LIST, "limits", "entries of the largest list");
     test_block("4,096 items in 32,768 bytes", d, s, runs);
-    expect(state_gives(d, s, 4095, 0, 0, 0, 0x23, 8), "limits", "state of the last of 4,096 items");
+    expect(state_gives(d, s, 4095, 0, 0x23, 0, 8, 0), "limits", "state of the last of 4,096 items");
     expect(lend_gives(d, s, 4095, 0, 0, FDOCA_MAX_DATA - 8, 8), "limits", "value of the last of 4,096 items");
     expect(whole_gives(d, s, 4095, 0, 0, 0, 7), "limits", "last of 4,096 items");
     free(d.at);

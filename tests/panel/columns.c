@@ -225,7 +225,7 @@ static void test_sizes(struct bytes d, const char *data, const struct item *item
         while (cut + 1 < count && items[cut + 1].start <= size)
             cut++;
         good = good && list_refuses(d, (struct bytes){s.at, size}, FDOCA_MAX_LIST, 13, items[cut].start) &&
-               state_gives(d, (struct bytes){s.at, size}, 0, 13, items[cut].start, 0, 0, 0);
+               state_refuses(d, (struct bytes){s.at, size}, 0, 13, items[cut].start);
     }
     expect(good, "data cut", name);
     expect(list_refuses(d, longer, FDOCA_MAX_LIST, 16, (uint32_t)s.size), "list of one byte more", name);
@@ -245,7 +245,7 @@ static void test_blocks(const struct block_case *cases, size_t case_count)
         expect(items_listed(d, s, c->items, count), "list", c->name);
         expect(list_refuses(d, s, FDOCA_LIST_SIZE(count) - 1, 12, 0), "list one entry short", c->name);
         for (uint32_t k = 0; k < count; k++)
-            test_item(d, s, k, &c->items[k], c->name);
+            test_item(d, s, k, c->items, c->name);
         expect_refused(d, s, count, 17, 0, c->name);
         test_sizes(d, c->data, c->items, count, c->name);
         free(d.at);
@@ -410,7 +410,7 @@ static void test_largest_descriptor(void)
     expect(check_gives(d, 0, 0, COLUMNS), "limits", "check of 1,340 columns");
     expect(list_gives(d, s, COUNT(list), list, COUNT(list)), "limits", "list of 1,340 columns");
     for (uint32_t k = 0; k < COLUMNS; k++)
-        good = good && whole_gives(d, s, k, 0, 0, 0, k) && state_gives(d, s, k, 0, 0, 0, 0x23, length_of(k));
+        good = good && whole_gives(d, s, k, 0, 0, 0, k) && state_gives(d, s, k, 0, 0x23, 0, length_of(k), 0);
     expect(good, "limits", "each of 1,340 columns");
     expect_refused(d, s, COLUMNS, 17, 0, "1,340 columns");
     d.at[d.size - 1] = 3;

@@ -60,7 +60,7 @@ static void expect_item(const struct column *c, struct bytes s, uint32_t is_null
     const uint32_t list[] = {1, (uint32_t)s.size, 0, 0xB1};
 
     expect(list_gives(c->sda, s, COUNT(list), list, COUNT(list)), "list", name);
-    expect(state_gives(c->sda, s, 0, 0, 0, is_null, c->code, length), "state", name);
+    expect(state_gives(c->sda, s, 0, is_null, c->code, lead(c), length, 0), "state", name);
     expect(lend_gives(c->sda, s, 0, 0, 0, lead(c), length), "lend", name);
     expect(whole_gives(c->sda, s, 0, 18, 0, 0, 0), "no whole number", name);
     expect(packed_gives(c->sda, s, 0, 18, 0, 0, 0, 0), "no packed decimal", name);
@@ -146,7 +146,7 @@ static void test_defaults(uint32_t code)
     for (uint32_t given = 0; given <= UINT16_MAX; given++) {
         set_given(c.sda, given);
         if (given != 4 && given != 8 && given != 16)
-            good = good && state_gives(c.sda, s, 0, 0, 0, 0, code, c.length);
+            good = good && state_gives(c.sda, s, 0, 0, code, lead(&c), c.length, 0);
     }
     expect(good, "every other F", c.name);
     free(c.sda.at);

@@ -24,7 +24,7 @@
 enum { LISTS = 5, ITEMS = 4, ITEM_CALLS = 4, ANSWERS = 1 + LISTS + ITEM_CALLS * ITEMS };
 
 /* What is looked at: that a call makes no fault, and what it gives. */
-enum kind { CHECK, LIST, STATE, LEND, WHOLE, PACKED, SAME, KEPT, BEYOND, WITHIN, KINDS };
+enum kind { CHECK, LIST, STATE, LEND, WHOLE, PACKED, SAME, KEPT, BEYOND, WITHIN, PARTS, KINDS };
 
 struct tally {
     const char *name;
@@ -42,12 +42,13 @@ static struct tally tallies[KINDS] = {
     [KEPT] = {"a refused list is as before", 0, 0},
     [BEYOND] = {"the entries beyond the list's are as before", 0, 0},
     [WITHIN] = {"a lent part lies within the data", 0, 0},
+    [PARTS] = {"an item's parts go from its start to the next item's, around the lent value", 0, 0},
 };
 
 /* All that a call can give. */
 struct answer {
     uint32_t number, place;
-    uint32_t results[4];
+    uint32_t results[6]; /* one more than any call gives: answers are compared byte by byte, with none unused */
     int64_t value;
 };
 
@@ -85,7 +86,8 @@ static void list_items(void)
 
 static void state(void)
 {
-    got.number = fdoca_state(d, d_size, s, s_size, item, &got.place, &got.results[0], &got.results[1], &got.results[2]);
+    got.number = fdoca_state(d, d_size, s, s_size, item, &got.place, &got.results[0], &got.results[1], &got.results[2],
+                             &got.results[3], &got.results[4]);
 }
 
 static void lend(void)
@@ -127,7 +129,7 @@ static void tell(enum kind kind, bool good)
 
 static void make(enum kind call, struct answer *answer)
 {
-    got = (struct answer){OLD, OLD, {OLD, OLD, OLD, OLD}, OLD_VALUE};
+    got = (struct answer){OLD, OLD, {OLD, OLD, OLD, OLD, OLD, OLD}, OLD_VALUE};
     tell(call, survives(calls[call]));
     if (got.number < COUNT(met))
         met[got.number]++;
@@ -178,12 +180,23 @@ static uint32_t make_lists(bool ends, uint32_t described, struct view *view)
     return n;
 }
 
-static void make_item_calls(uint32_t number, struct answer *answers)
+/* What the state and the lending call gave of item k, beside the list of all items. */
+static bool parts_fit(const uint32_t *all, uint32_t k, const struct answer *state, const struct answer *lent)
+{
+    uint32_t start = fdoca_item_start(all, k), end = k + 1 < all[0] ? fdoca_item_start(all, k + 1) : all[1];
+    uint32_t lead = state->results[2], value = state->results[3], spare = state->results[4];
+
+    return lent->results[0] == start + lead && lent->results[1] == value && lead + value + spare == end - start;
+}
+
+static void make_item_calls(uint32_t number, const uint32_t *all, struct answer *answers)
 {
     item = number;
     make(STATE, &answers[0]);
     make(LEND, &answers[1]);
     tell(WITHIN, got.results[0] <= s_size && got.results[1] <= s_size - got.results[0]);
+    if (answers[0].number == FDOCA_ACCEPTED)
+        tell(PARTS, number < all[0] && parts_fit(all, number, &answers[0], &answers[1]));
     make(WHOLE, &answers[2]);
     make(PACKED, &answers[3]);
 }
@@ -200,7 +213,7 @@ static void make_calls(bool ends, struct view *view)
     const uint32_t numbers[ITEMS] = {0, n - 1, n, UINT32_MAX};
 
     for (size_t i = 0; i < ITEMS; i++)
-        make_item_calls(numbers[i], &view->answers[1 + LISTS + ITEM_CALLS * i]);
+        make_item_calls(numbers[i], view->lists[0], &view->answers[1 + LISTS + ITEM_CALLS * i]);
 }
 
 static bool is_same(const struct view *one, const struct view *other)

@@ -11,79 +11,79 @@ struct item_case {
     const char *name;
     const char *descriptor;
     const char *data;
-    uint32_t item, is_null, type_code, offset, length;
+    uint32_t item, start, is_null, type_code, lead, value, spare;
 };
 
 static const struct item_case strings[] = {
-    {"fixed", S("01", "0003"), "616263", 0, 0, 0x01, 0, 3},
-    {"fixed, no bytes", S("01", "0000"), "", 0, 0, 0x01, 0, 0},
-    {"fixed, nullable", S("81", "0003"), "00616263", 0, 0, 0x81, 1, 3},
-    {"fixed, low bits of the indicator", S("81", "0001"), "7F61", 0, 0, 0x81, 1, 1},
-    {"fixed, nullable, no bytes", S("81", "0000"), "00", 0, 0, 0x81, 1, 0},
-    {"fixed, null", S("81", "0003"), "80", 0, 1, 0x81, 1, 0},
-    {"fixed, null with low bits", S("81", "0003"), "FF", 0, 1, 0x81, 1, 0},
-    {"variable, mode 0", M("02", "00", "0004"), "000241420000", 0, 0, 0x02, 2, 2},
-    {"variable, mode 1", M("02", "01", "0004"), "00024142", 0, 0, 0x02, 2, 2},
-    {"variable, mode 0, F bytes", M("02", "00", "0002"), "00024142", 0, 0, 0x02, 2, 2},
-    {"variable, mode 0, no bytes", M("02", "00", "0002"), "00004142", 0, 0, 0x02, 2, 0},
-    {"variable, mode 1, no bytes", M("02", "01", "0002"), "0000", 0, 0, 0x02, 2, 0},
-    {"variable, mode 0, F 0", M("02", "00", "0000"), "0003414243", 0, 0, 0x02, 2, 3},
-    {"variable, mode 1, F 0", M("02", "01", "0000"), "0003414243", 0, 0, 0x02, 2, 3},
-    {"variable, nullable", M("82", "00", "0004"), "00000241420000", 0, 0, 0x82, 3, 2},
-    {"variable, null", M("82", "00", "0004"), "80", 0, 1, 0x82, 1, 0},
-    {"terminated, mode 0", M("03", "00", "0003"), "41004344", 0, 0, 0x03, 0, 1},
-    {"terminated, mode 1", M("03", "01", "0003"), "4100", 0, 0, 0x03, 0, 1},
-    {"terminated, mode 0, F bytes", M("03", "00", "0002"), "414200", 0, 0, 0x03, 0, 2},
-    {"terminated, mode 0, no bytes", M("03", "00", "0001"), "0041", 0, 0, 0x03, 0, 0},
-    {"terminated, mode 1, no bytes", M("03", "01", "0001"), "00", 0, 0, 0x03, 0, 0},
-    {"terminated, mode 0, F 0", M("03", "00", "0000"), "41424300", 0, 0, 0x03, 0, 3},
-    {"terminated, mode 1, F 0", M("03", "01", "0000"), "41424300", 0, 0, 0x03, 0, 3},
-    {"terminated, nullable", M("83", "00", "0003"), "0041004344", 0, 0, 0x83, 1, 1},
-    {"terminated, null", M("83", "01", "0003"), "80", 0, 1, 0x83, 1, 0},
-    {"short, mode 0", M("07", "00", "0004"), "0241420000", 0, 0, 0x07, 1, 2},
-    {"short, mode 1", M("07", "01", "0004"), "024142", 0, 0, 0x07, 1, 2},
-    {"short, mode 0, no bytes", M("07", "00", "0002"), "004142", 0, 0, 0x07, 1, 0},
-    {"short, mode 0, F 0", M("07", "00", "0000"), "03414243", 0, 0, 0x07, 1, 3},
-    {"short, mode 1, F 0", M("07", "01", "0000"), "03414243", 0, 0, 0x07, 1, 3},
-    {"short, nullable", M("87", "01", "0004"), "00024142", 0, 0, 0x87, 2, 2},
-    {"short, null", M("87", "00", "0004"), "80", 0, 1, 0x87, 1, 0},
+    {"fixed", S("01", "0003"), "616263", 0, 0, 0, 0x01, 0, 3, 0},
+    {"fixed, no bytes", S("01", "0000"), "", 0, 0, 0, 0x01, 0, 0, 0},
+    {"fixed, nullable", S("81", "0003"), "00616263", 0, 0, 0, 0x81, 1, 3, 0},
+    {"fixed, low bits of the indicator", S("81", "0001"), "7F61", 0, 0, 0, 0x81, 1, 1, 0},
+    {"fixed, nullable, no bytes", S("81", "0000"), "00", 0, 0, 0, 0x81, 1, 0, 0},
+    {"fixed, null", S("81", "0003"), "80", 0, 0, 1, 0x81, 1, 0, 0},
+    {"fixed, null with low bits", S("81", "0003"), "FF", 0, 0, 1, 0x81, 1, 0, 0},
+    {"variable, mode 0", M("02", "00", "0004"), "000241420000", 0, 0, 0, 0x02, 2, 2, 2},
+    {"variable, mode 1", M("02", "01", "0004"), "00024142", 0, 0, 0, 0x02, 2, 2, 0},
+    {"variable, mode 0, F bytes", M("02", "00", "0002"), "00024142", 0, 0, 0, 0x02, 2, 2, 0},
+    {"variable, mode 0, no bytes", M("02", "00", "0002"), "00004142", 0, 0, 0, 0x02, 2, 0, 2},
+    {"variable, mode 1, no bytes", M("02", "01", "0002"), "0000", 0, 0, 0, 0x02, 2, 0, 0},
+    {"variable, mode 0, F 0", M("02", "00", "0000"), "0003414243", 0, 0, 0, 0x02, 2, 3, 0},
+    {"variable, mode 1, F 0", M("02", "01", "0000"), "0003414243", 0, 0, 0, 0x02, 2, 3, 0},
+    {"variable, nullable", M("82", "00", "0004"), "00000241420000", 0, 0, 0, 0x82, 3, 2, 2},
+    {"variable, null", M("82", "00", "0004"), "80", 0, 0, 1, 0x82, 1, 0, 0},
+    {"terminated, mode 0", M("03", "00", "0003"), "41004344", 0, 0, 0, 0x03, 0, 1, 3},
+    {"terminated, mode 1", M("03", "01", "0003"), "4100", 0, 0, 0, 0x03, 0, 1, 1},
+    {"terminated, mode 0, F bytes", M("03", "00", "0002"), "414200", 0, 0, 0, 0x03, 0, 2, 1},
+    {"terminated, mode 0, no bytes", M("03", "00", "0001"), "0041", 0, 0, 0, 0x03, 0, 0, 2},
+    {"terminated, mode 1, no bytes", M("03", "01", "0001"), "00", 0, 0, 0, 0x03, 0, 0, 1},
+    {"terminated, mode 0, F 0", M("03", "00", "0000"), "41424300", 0, 0, 0, 0x03, 0, 3, 1},
+    {"terminated, mode 1, F 0", M("03", "01", "0000"), "41424300", 0, 0, 0, 0x03, 0, 3, 1},
+    {"terminated, nullable", M("83", "00", "0003"), "0041004344", 0, 0, 0, 0x83, 1, 1, 3},
+    {"terminated, null", M("83", "01", "0003"), "80", 0, 0, 1, 0x83, 1, 0, 0},
+    {"short, mode 0", M("07", "00", "0004"), "0241420000", 0, 0, 0, 0x07, 1, 2, 2},
+    {"short, mode 1", M("07", "01", "0004"), "024142", 0, 0, 0, 0x07, 1, 2, 0},
+    {"short, mode 0, no bytes", M("07", "00", "0002"), "004142", 0, 0, 0, 0x07, 1, 0, 2},
+    {"short, mode 0, F 0", M("07", "00", "0000"), "03414243", 0, 0, 0, 0x07, 1, 3, 0},
+    {"short, mode 1, F 0", M("07", "01", "0000"), "03414243", 0, 0, 0, 0x07, 1, 3, 0},
+    {"short, nullable", M("87", "01", "0004"), "00024142", 0, 0, 0, 0x87, 2, 2, 0},
+    {"short, null", M("87", "00", "0004"), "80", 0, 0, 1, 0x87, 1, 0, 0},
 };
 
 #define PI "40091EB851EB851F"
 
 static const struct item_case numbers[] = {
-    {"whole, 2 bytes", S("23", "0002"), "0102", 0, 0, 0x23, 0, 2},
-    {"whole, 4 bytes", S("23", "0004"), "01020304", 0, 0, 0x23, 0, 4},
-    {"whole, 8 bytes", S("23", "0008"), "0102030405060708", 0, 0, 0x23, 0, 8},
-    {"whole, nullable", S("A3", "0002"), "000102", 0, 0, 0xA3, 1, 2},
-    {"whole, null", S("A3", "0002"), "80", 0, 1, 0xA3, 1, 0},
-    {"reversed, 2 bytes", S("24", "0002"), "0201", 0, 0, 0x24, 0, 2},
-    {"reversed, 4 bytes", S("24", "0004"), "04030201", 0, 0, 0x24, 0, 4},
-    {"reversed, 8 bytes", S("24", "0008"), "0807060504030201", 0, 0, 0x24, 0, 8},
-    {"reversed, nullable", S("A4", "0008"), "000807060504030201", 0, 0, 0xA4, 1, 8},
-    {"reversed, null", S("A4", "0008"), "80", 0, 1, 0xA4, 1, 0},
-    {"packed, 1 digit", S("30", "0100"), "7C", 0, 0, 0x30, 0, 1},
-    {"packed, 2 digits", S("30", "0201"), "012C", 0, 0, 0x30, 0, 2},
-    {"packed, 17 digits", S("30", "1100"), "12345678901234567C", 0, 0, 0x30, 0, 9},
-    {"packed, 18 digits", S("30", "1212"), "0123456789012345678C", 0, 0, 0x30, 0, 10},
-    {"packed, bad digits", S("30", "0402"), "FFFFF0", 0, 0, 0x30, 0, 3},
-    {"packed, nullable", S("B0", "0503"), "0012345D", 0, 0, 0xB0, 1, 3},
-    {"packed, nullable, bad digits", S("B0", "0503"), "00ABCDE9", 0, 0, 0xB0, 1, 3},
-    {"packed, null", S("B0", "0503"), "80", 0, 1, 0xB0, 1, 0},
-    {"hexadecimal float, 4 bytes", S("40", "0004"), "41100000", 0, 0, 0x40, 0, 4},
-    {"hexadecimal float, 8 bytes", S("40", "0008"), "4110000000000000", 0, 0, 0x40, 0, 8},
-    {"hexadecimal float, 16 bytes", S("40", "0010"), PI PI, 0, 0, 0x40, 0, 16},
-    {"hexadecimal float, nullable", S("C0", "0010"), "00" PI PI, 0, 0, 0xC0, 1, 16},
-    {"hexadecimal float, null", S("C0", "0010"), "80", 0, 1, 0xC0, 1, 0},
-    {"reversed float, 4 bytes", S("47", "0004"), "C3F54840", 0, 0, 0x47, 0, 4},
-    {"reversed float, 8 bytes", S("47", "0008"), PI, 0, 0, 0x47, 0, 8},
-    {"reversed float, nullable", S("C7", "0004"), "00C3F54840", 0, 0, 0xC7, 1, 4},
-    {"reversed float, null", S("C7", "0004"), "80", 0, 1, 0xC7, 1, 0},
-    {"float, 4 bytes", S("48", "0004"), "4048F5C3", 0, 0, 0x48, 0, 4},
-    {"float, 8 bytes", S("48", "0008"), PI, 0, 0, 0x48, 0, 8},
-    {"float, bias indicator 1", "0C70B1480000000100000004", "4048F5C3", 0, 0, 0x48, 0, 4},
-    {"float, nullable", S("C8", "0008"), "00" PI, 0, 0, 0xC8, 1, 8},
-    {"float, null", S("C8", "0008"), "80", 0, 1, 0xC8, 1, 0},
+    {"whole, 2 bytes", S("23", "0002"), "0102", 0, 0, 0, 0x23, 0, 2, 0},
+    {"whole, 4 bytes", S("23", "0004"), "01020304", 0, 0, 0, 0x23, 0, 4, 0},
+    {"whole, 8 bytes", S("23", "0008"), "0102030405060708", 0, 0, 0, 0x23, 0, 8, 0},
+    {"whole, nullable", S("A3", "0002"), "000102", 0, 0, 0, 0xA3, 1, 2, 0},
+    {"whole, null", S("A3", "0002"), "80", 0, 0, 1, 0xA3, 1, 0, 0},
+    {"reversed, 2 bytes", S("24", "0002"), "0201", 0, 0, 0, 0x24, 0, 2, 0},
+    {"reversed, 4 bytes", S("24", "0004"), "04030201", 0, 0, 0, 0x24, 0, 4, 0},
+    {"reversed, 8 bytes", S("24", "0008"), "0807060504030201", 0, 0, 0, 0x24, 0, 8, 0},
+    {"reversed, nullable", S("A4", "0008"), "000807060504030201", 0, 0, 0, 0xA4, 1, 8, 0},
+    {"reversed, null", S("A4", "0008"), "80", 0, 0, 1, 0xA4, 1, 0, 0},
+    {"packed, 1 digit", S("30", "0100"), "7C", 0, 0, 0, 0x30, 0, 1, 0},
+    {"packed, 2 digits", S("30", "0201"), "012C", 0, 0, 0, 0x30, 0, 2, 0},
+    {"packed, 17 digits", S("30", "1100"), "12345678901234567C", 0, 0, 0, 0x30, 0, 9, 0},
+    {"packed, 18 digits", S("30", "1212"), "0123456789012345678C", 0, 0, 0, 0x30, 0, 10, 0},
+    {"packed, bad digits", S("30", "0402"), "FFFFF0", 0, 0, 0, 0x30, 0, 3, 0},
+    {"packed, nullable", S("B0", "0503"), "0012345D", 0, 0, 0, 0xB0, 1, 3, 0},
+    {"packed, nullable, bad digits", S("B0", "0503"), "00ABCDE9", 0, 0, 0, 0xB0, 1, 3, 0},
+    {"packed, null", S("B0", "0503"), "80", 0, 0, 1, 0xB0, 1, 0, 0},
+    {"hexadecimal float, 4 bytes", S("40", "0004"), "41100000", 0, 0, 0, 0x40, 0, 4, 0},
+    {"hexadecimal float, 8 bytes", S("40", "0008"), "4110000000000000", 0, 0, 0, 0x40, 0, 8, 0},
+    {"hexadecimal float, 16 bytes", S("40", "0010"), PI PI, 0, 0, 0, 0x40, 0, 16, 0},
+    {"hexadecimal float, nullable", S("C0", "0010"), "00" PI PI, 0, 0, 0, 0xC0, 1, 16, 0},
+    {"hexadecimal float, null", S("C0", "0010"), "80", 0, 0, 1, 0xC0, 1, 0, 0},
+    {"reversed float, 4 bytes", S("47", "0004"), "C3F54840", 0, 0, 0, 0x47, 0, 4, 0},
+    {"reversed float, 8 bytes", S("47", "0008"), PI, 0, 0, 0, 0x47, 0, 8, 0},
+    {"reversed float, nullable", S("C7", "0004"), "00C3F54840", 0, 0, 0, 0xC7, 1, 4, 0},
+    {"reversed float, null", S("C7", "0004"), "80", 0, 0, 1, 0xC7, 1, 0, 0},
+    {"float, 4 bytes", S("48", "0004"), "4048F5C3", 0, 0, 0, 0x48, 0, 4, 0},
+    {"float, 8 bytes", S("48", "0008"), PI, 0, 0, 0, 0x48, 0, 8, 0},
+    {"float, bias indicator 1", "0C70B1480000000100000004", "4048F5C3", 0, 0, 0, 0x48, 0, 4, 0},
+    {"float, nullable", S("C8", "0008"), "00" PI, 0, 0, 0, 0xC8, 1, 8, 0},
+    {"float, null", S("C8", "0008"), "80", 0, 0, 1, 0xC8, 1, 0, 0},
 };
 
 /* Two rows of the example's menu: a dish of up to 24 bytes and its calories, both nullable, and its grams. */
@@ -99,20 +99,20 @@ static const struct item_case numbers[] = {
 #define FLOAT_ROWS "4168000000000000" "000000C03F" "41C40000" "C1A4000000000000" "80" "BFC00000"
 
 static const struct item_case rows[] = {
-    {"a dish", MENU, ROWS, 0, 0, 0x82, 3, 9},
-    {"its calories", MENU, ROWS, 1, 0, 0xA3, 13, 2},
-    {"its grams", MENU, ROWS, 2, 0, 0x23, 15, 4},
-    {"a null dish", MENU, ROWS, 3, 1, 0x82, 20, 0},
-    {"null calories", MENU, ROWS, 4, 1, 0xA3, 21, 0},
-    {"grams behind nulls", MENU, ROWS, 5, 0, 0x23, 21, 4},
-    {"a hexadecimal float", FLOATS, FLOAT_ROWS, 0, 0, 0x40, 0, 8},
-    {"a nullable float", FLOATS, FLOAT_ROWS, 1, 0, 0xC7, 9, 4},
-    {"a binary float", FLOATS, FLOAT_ROWS, 2, 0, 0x48, 13, 4},
-    {"a negative hexadecimal float", FLOATS, FLOAT_ROWS, 3, 0, 0x40, 17, 8},
-    {"a null float", FLOATS, FLOAT_ROWS, 4, 1, 0xC7, 26, 0},
-    {"a binary float behind a null", FLOATS, FLOAT_ROWS, 5, 0, 0x48, 26, 4},
-    {"reserved space before", M("02", "00", "0003") "0671A1B10002", "00014100000002424300", 1, 0, 0x02, 7, 2},
-    {"no bytes, at the end", M("02", "01", "0003") "0671A1B10002", "0001410000", 1, 0, 0x02, 5, 0},
+    {"a dish", MENU, ROWS, 0, 0, 0, 0x82, 3, 9, 0},
+    {"its calories", MENU, ROWS, 1, 12, 0, 0xA3, 1, 2, 0},
+    {"its grams", MENU, ROWS, 2, 15, 0, 0x23, 0, 4, 0},
+    {"a null dish", MENU, ROWS, 3, 19, 1, 0x82, 1, 0, 0},
+    {"null calories", MENU, ROWS, 4, 20, 1, 0xA3, 1, 0, 0},
+    {"grams behind nulls", MENU, ROWS, 5, 21, 0, 0x23, 0, 4, 0},
+    {"a hexadecimal float", FLOATS, FLOAT_ROWS, 0, 0, 0, 0x40, 0, 8, 0},
+    {"a nullable float", FLOATS, FLOAT_ROWS, 1, 8, 0, 0xC7, 1, 4, 0},
+    {"a binary float", FLOATS, FLOAT_ROWS, 2, 13, 0, 0x48, 0, 4, 0},
+    {"a negative hexadecimal float", FLOATS, FLOAT_ROWS, 3, 17, 0, 0x40, 0, 8, 0},
+    {"a null float", FLOATS, FLOAT_ROWS, 4, 25, 1, 0xC7, 1, 0, 0},
+    {"a binary float behind a null", FLOATS, FLOAT_ROWS, 5, 26, 0, 0x48, 0, 4, 0},
+    {"reserved space before", M("02", "00", "0003") "0671A1B10002", "00014100000002424300", 1, 5, 0, 0x02, 2, 2, 1},
+    {"no bytes, at the end", M("02", "01", "0003") "0671A1B10002", "0001410000", 1, 3, 0, 0x02, 2, 0, 0},
 };
 
 /* The calls that read numbers refuse a first item of another type, null or not. */
@@ -132,8 +132,8 @@ static void test_items(const struct item_case *cases, size_t count)
         const struct item_case *c = &cases[i];
         struct bytes d = hex(c->descriptor), s = hex(c->data);
 
-        expect(state_gives(d, s, c->item, 0, 0, c->is_null, c->type_code, c->length), "state", c->name);
-        expect(lend_gives(d, s, c->item, 0, 0, c->offset, c->length), "lend", c->name);
+        expect(state_gives(d, s, c->item, c->is_null, c->type_code, c->lead, c->value, c->spare), "state", c->name);
+        expect(lend_gives(d, s, c->item, 0, 0, c->start + c->lead, c->value), "lend", c->name);
         if (c->item == 0)
             test_wrong_type(c, d, s);
         free(d.at);
@@ -203,18 +203,14 @@ static void test_wholes(void)
 
 static void test_state_of_null(void)
 {
-    struct bytes d = hex(S("01", "0000")), number = hex(S("A3", "0002")), s = hex("000007");
-    uint32_t place = OLD, is_null = OLD, type_code = OLD, length = OLD;
-    uint32_t got = fdoca_state_null_ok(NULL, 0, NULL, 0, 0, &place, &is_null, &type_code, &length);
+    const struct bytes nothing = {NULL, 0};
+    struct bytes d = hex(S("01", "0000")), name = hex(M("87", "00", "0003")), s = hex("0001414243");
 
-    expect(got == 11 && place == 0 && is_null == 0 && type_code == 0 && length == 0, "null", "state of nothing");
-    is_null = length = OLD;
-    got = fdoca_state_null_ok(d.at, d.size, NULL, 0, 0, &place, &is_null, &type_code, &length);
-    expect(got == 0 && place == 0 && is_null == 0 && type_code == 1 && length == 0, "null", "state of no data");
-    got = fdoca_state_null_ok(number.at, number.size, s.at, s.size, 0, &place, &is_null, &type_code, &length);
-    expect(got == 0 && place == 0 && is_null == 0 && type_code == 0xA3 && length == 2, "null", "state");
+    expect(same_state(state_null_ok(nothing, nothing), (struct state){11, 0, 0, 0, 0, 0, 0}), "null", "state of nothing");
+    expect(same_state(state_null_ok(d, nothing), (struct state){0, 0, 0, 0x01, 0, 0, 0}), "null", "state of no data");
+    expect(same_state(state_null_ok(name, s), (struct state){0, 0, 0, 0x87, 2, 1, 2}), "null", "state");
     free(d.at);
-    free(number.at);
+    free(name.at);
     free(s.at);
 }
 

@@ -175,7 +175,7 @@ static void test_sizes(unsigned digits, const char *name)
     memset(s.at, 0xFF, s.size);
     expect(fdoca_list(d.at, d.size, s.at, s.size, list, 4, &place) == 0 && place == 0 && list[1] == size,
            "list of bad digits", name);
-    expect(state_gives(d, s, 0, 0, 0, 0, FDOCA_TYPE_PACKED, size), "state of bad digits", name);
+    expect(state_gives(d, s, 0, 0, FDOCA_TYPE_PACKED, 0, size, 0), "state of bad digits", name);
     expect(lend_gives(d, s, 0, 0, 0, 0, size), "value of bad digits", name);
     expect(whole_gives(d, s, 0, 18, 0, 0, 0), "whole number of bad digits", name);
     expect(packed_gives(d, s, 0, 20, 0, 0, 0, 0), "packed decimal of bad digits", name);

@@ -253,12 +253,6 @@ static const struct block_case empty_items[] = {
      {{0xB2, 0, 0, 0x01, 0, 0, 0, 0}, {0xB2, 0, 0, 0x01, 0, 0, 0, 0}, {0xB1, 0, 0, 0x23, 0, 2, 7, 0}}},
 };
 
-/* Where item k starts, and an item behind the last where the data end. */
-static size_t start_of(const struct block_case *c, uint32_t k, size_t size)
-{
-    return k < count_of(c->items) ? c->items[k].start : size;
-}
-
 /* Whether the data may end before item k. */
 static bool is_row_start(const struct block_case *c, uint32_t k)
 {
@@ -272,15 +266,15 @@ static bool cut_gives(const struct block_case *c, struct bytes d, struct bytes s
     struct bytes cut = {s.at, size};
     uint32_t k = 0;
 
-    while (start_of(c, k + 1, s.size) <= size && !(is_row_start(c, k) && start_of(c, k, s.size) == size))
+    while (start_of(c->items, k + 1, s) <= size && !(is_row_start(c, k) && start_of(c->items, k, s) == size))
         k++;
 
-    uint32_t start = (uint32_t)start_of(c, k, s.size);
+    uint32_t start = start_of(c->items, k, s);
 
     if (is_row_start(c, k) && start == size)
-        return items_listed(d, cut, c->items, k) && list_refuses(d, cut, 1, 12, 0) && state_gives(d, cut, k, 17, 0, 0, 0, 0);
+        return items_listed(d, cut, c->items, k) && list_refuses(d, cut, 1, 12, 0) && state_refuses(d, cut, k, 17, 0);
     return list_refuses(d, cut, 0, 13, start) && list_refuses(d, cut, FDOCA_MAX_LIST, 13, start) &&
-           state_gives(d, cut, 0, 13, start, 0, 0, 0);
+           state_refuses(d, cut, 0, 13, start);
 }
 
 static void test_cuts(const struct block_case *c, struct bytes d, struct bytes s)
@@ -312,7 +306,7 @@ static void test_blocks(const struct block_case *cases, size_t case_count)
         expect(items_listed(d, s, c->items, count), "list", c->name);
         test_small_lists(c, d, s, count);
         for (uint32_t k = 0; k < count; k++)
-            test_item(d, s, k, &c->items[k], c->name);
+            test_item(d, s, k, c->items, c->name);
         expect_refused(d, s, count, 17, 0, c->name);
         expect_refused(d, s, UINT32_MAX, 17, 0, c->name);
         test_cuts(c, d, s);
@@ -368,7 +362,7 @@ static void test_bad_digits(void)
     struct bytes d = hex(S("30", "0300") "0671A1B10000"), s = hex("123C" "FFFF");
 
     expect(list_refuses(d, s, 5, 12, 0), "bad digits", "list too small");
-    expect(state_gives(d, s, 1, 0, 0, 0, 0x30, 2), "bad digits", "state");
+    expect(state_gives(d, s, 1, 0, 0x30, 0, 2, 0), "bad digits", "state");
     expect(packed_gives(d, s, 0, 0, 0, 0, 123, 0), "bad digits", "beside a value");
     expect(packed_gives(d, s, 1, 20, 2, 0, 0, 0), "bad digits", "packed decimal");
     expect(packed_gives(d, s, 2, 17, 0, 0, 0, 0), "bad digits", "item that is not there");
@@ -401,7 +395,7 @@ static void expect_items(struct bytes d, uint32_t count, uint32_t length, const 
     expect(list_gives(d, s, size, list, size), "list that just fits", name);
     expect(list_gives(d, s, size + 5, list, size), "list with room to spare", name);
     expect(list_refuses(d, s, size - 1, 12, 0), "list one entry short", name);
-    expect(state_gives(d, s, count - 1, 0, 0, 0, 0x23, length), "state of the last item", name);
+    expect(state_gives(d, s, count - 1, 0, 0x23, 0, length, 0), "state of the last item", name);
     expect(lend_gives(d, s, count - 1, 0, 0, (count - 1) * length, length), "value of the last item", name);
     expect(whole_gives(d, s, count - 1, 0, 0, 0, 7), "the last item", name);
     expect_refused(d, s, count, 17, 0, name);
@@ -504,7 +498,7 @@ static void test_rows_of_three(void)
 {
     struct bytes d = hex(THREE), s = zeros(4095), longest = zeros(FDOCA_MAX_DATA + 1);
 
-    expect(state_gives(d, s, 4094, 0, 0, 0, 0x01, 1), "limits", "the last of 1,365 rows");
+    expect(state_gives(d, s, 4094, 0, 0x01, 0, 1, 0), "limits", "the last of 1,365 rows");
     expect_refused(d, s, 4095, 17, 0, "1,365 rows");
     expect_broken(d, longest, 1, 0, "data of 32,769 bytes");
     free(d.at);
@@ -543,15 +537,15 @@ static void test_largest_descriptor(void)
 static void test_null_pointers(void)
 {
     struct bytes d = hex(W "0671A1B10000");
-    uint32_t place = OLD, is_null = OLD, type_code = OLD, length = OLD, list[2] = {OLD, OLD};
+    uint32_t place = OLD, list[2] = {OLD, OLD};
     uint32_t got = fdoca_list_null_ok(d.at, d.size, NULL, 0, NULL, 0, &place);
 
     expect(got == 12 && place == 0, "null", "no list");
     place = OLD;
     got = fdoca_list_null_ok(d.at, d.size, NULL, 0, list, 2, &place);
     expect(got == 0 && place == 0 && list[0] == 0 && list[1] == 0, "null", "list of no data");
-    got = fdoca_state_null_ok(d.at, d.size, NULL, 0, 0, &place, &is_null, &type_code, &length);
-    expect(got == 17 && place == 0 && is_null == 0 && type_code == 0 && length == 0, "null", "state of no data");
+    expect(same_state(state_null_ok(d, (struct bytes){NULL, 0}), (struct state){17, 0, 0, 0, 0, 0, 0}), "null",
+           "state of no data");
     free(d.at);
 }
 

@@ -88,7 +88,7 @@ static void list_all(void)
 
 static void state(void)
 {
-    answered = state_gives(descriptor, data, FDOCA_MAX_ITEMS - 1, 0, 0, 0, FDOCA_TYPE_WHOLE, 8);
+    answered = state_gives(descriptor, data, FDOCA_MAX_ITEMS - 1, 0, FDOCA_TYPE_WHOLE, 0, 8, 0);
 }
 
 static void lend(void)

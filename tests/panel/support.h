@@ -146,13 +146,47 @@ static inline bool list_gives(struct bytes d, struct bytes s, size_t size, const
     return good;
 }
 
-static inline bool state_gives(struct bytes d, struct bytes s, uint32_t item, uint32_t number, uint32_t place,
-                               uint32_t is_null, uint32_t type_code, uint32_t value)
-{
-    uint32_t got_place = OLD, got_null = OLD, got_code = OLD, got_value = OLD;
-    uint32_t got = fdoca_state(d.at, d.size, s.at, s.size, item, &got_place, &got_null, &got_code, &got_value);
+/* All that the state call gives. */
+struct state {
+    uint32_t number, place, is_null, type_code, lead, value, spare;
+};
 
-    return got == number && got_place == place && got_null == is_null && got_code == type_code && got_value == value;
+static inline struct state state_of(struct bytes d, struct bytes s, uint32_t item)
+{
+    struct state got = {OLD, OLD, OLD, OLD, OLD, OLD, OLD};
+
+    got.number = fdoca_state(d.at, d.size, s.at, s.size, item, &got.place, &got.is_null, &got.type_code, &got.lead,
+                             &got.value, &got.spare);
+    return got;
+}
+
+/* The same by the header's own function: bytes may be at NULL. */
+static inline struct state state_null_ok(struct bytes d, struct bytes s)
+{
+    struct state got = {OLD, OLD, OLD, OLD, OLD, OLD, OLD};
+
+    got.number = fdoca_state_null_ok(d.at, d.size, s.at, s.size, 0, &got.place, &got.is_null, &got.type_code, &got.lead,
+                                     &got.value, &got.spare);
+    return got;
+}
+
+static inline bool same_state(struct state one, struct state other)
+{
+    return one.number == other.number && one.place == other.place && one.is_null == other.is_null &&
+           one.type_code == other.type_code && one.lead == other.lead && one.value == other.value &&
+           one.spare == other.spare;
+}
+
+static inline bool state_gives(struct bytes d, struct bytes s, uint32_t item, uint32_t is_null, uint32_t type_code,
+                               uint32_t lead, uint32_t value, uint32_t spare)
+{
+    return same_state(state_of(d, s, item), (struct state){0, 0, is_null, type_code, lead, value, spare});
+}
+
+/* A refusal gives zeros behind its number and place. */
+static inline bool state_refuses(struct bytes d, struct bytes s, uint32_t item, uint32_t number, uint32_t place)
+{
+    return same_state(state_of(d, s, item), (struct state){number, place, 0, 0, 0, 0, 0});
 }
 
 static inline bool lend_gives(struct bytes d, struct bytes s, uint32_t item, uint32_t number, uint32_t place,
@@ -189,7 +223,7 @@ static inline bool packed_gives(struct bytes d, struct bytes s, uint32_t item, u
 static inline void expect_refused(struct bytes d, struct bytes s, uint32_t item, uint32_t number, uint32_t place,
                                   const char *name)
 {
-    expect(state_gives(d, s, item, number, place, 0, 0, 0), "state refused", name);
+    expect(state_refuses(d, s, item, number, place), "state refused", name);
     expect(lend_gives(d, s, item, number, place, 0, 0), "lend refused", name);
     expect(whole_gives(d, s, item, number, place, 0, 0), "whole number refused", name);
     expect(packed_gives(d, s, item, number, place, 0, 0, 0), "packed decimal refused", name);
@@ -214,13 +248,21 @@ static inline uint32_t count_of(const struct item *items)
     return count;
 }
 
-static inline void test_item(struct bytes d, struct bytes s, uint32_t k, const struct item *item, const char *block)
+/* Where item k starts, and an item behind the last where the data end. */
+static inline uint32_t start_of(const struct item *items, uint32_t k, struct bytes s)
 {
+    return k < count_of(items) ? items[k].start : (uint32_t)s.size;
+}
+
+static inline void test_item(struct bytes d, struct bytes s, uint32_t k, const struct item *items, const char *block)
+{
+    const struct item *item = &items[k];
     uint32_t type = fdoca_plain_type(item->type_code);
+    uint32_t lead = item->offset - item->start, spare = start_of(items, k + 1, s) - item->offset - item->length;
     char name[80];
 
     snprintf(name, sizeof name, "%s, item %u", block, (unsigned)k);
-    expect(state_gives(d, s, k, 0, 0, item->is_null, item->type_code, item->length), "state", name);
+    expect(state_gives(d, s, k, item->is_null, item->type_code, lead, item->length, spare), "state", name);
     expect(lend_gives(d, s, k, 0, 0, item->offset, item->length), "lend", name);
     expect(is_whole(type) ? whole_gives(d, s, k, 0, 0, item->is_null, item->value)
                           : whole_gives(d, s, k, 18, item->start, 0, 0),

@@ -43,6 +43,18 @@ impl Field {
         self.type_code == 0x01 && self.limit == 0
     }
 
+    /// The lengths of what precedes an item's value, of the value, and of what follows it.
+    pub fn parts(&self, item: Item) -> [usize; 3] {
+        let length_field = match self.layout {
+            _ if item.is_null => 0,
+            Layout::Fixed | Layout::Terminated => 0,
+            Layout::Short => 1,
+            Layout::Variable => 2,
+        };
+        let lead = usize::from(self.type_code >= 0x80) + length_field;
+        [lead, item.value, item.length - lead - item.value]
+    }
+
     #[inline(always)]
     pub fn measure(&self, bytes: &[u8]) -> Result<Item, u32> {
         let body = match bytes {

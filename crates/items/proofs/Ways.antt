@@ -55,7 +55,7 @@ module _ (mode f w L left : ℕ) (m : Measured) where
 pub ruleset ranged-ways = (unbounded-sent, over-refused, reserved-sent, limited-sent)
 
 -- the length fields, as the bytes that they have
-pub one-byte : (s : List ℕ) → 1 ≤ length s → big (take 1 s) ≡ getD s 0 0
+one-byte : (s : List ℕ) → 1 ≤ length s → big (take 1 s) ≡ getD s 0 0
 unfolding big inBase
 one-byte [] l = absurd (let z : ⊥ = omega arith in z)
 one-byte (a ∷ s) l = omega arith
@@ -119,11 +119,11 @@ module _ (s : List ℕ) (b : Bool) (t : b ≡ true) (e : length s ≡ 0 → ⊥)
 pub ruleset indicator-ways = (no-indicator, no-byte, no-null, a-null, not-true, not-false)
 
 -- an item by what its null indicator tells: none, a null, or the value behind so many bytes
-abbrev pub moved : ℕ → defined.Measured → defined.Measured
+abbrev moved : ℕ → defined.Measured → defined.Measured
 moved k (refused n) = refused n
 moved k (item z p v r) = item z (p + k) v r
 
-abbrev pub told : defined.Measured → (ℕ → defined.Measured) → defined.Measured
+abbrev told : defined.Measured → (ℕ → defined.Measured) → defined.Measured
 told (refused n) g = refused n
 told (item true p v r) g = item true p v r
 told (item false p v r) g = moved p (g p)
@@ -137,7 +137,7 @@ module _ (l : Layout) (mode f : ℕ) where
   moved-1 (refused n) = refl
   moved-1 (item z p v r) = rw (add-comm 1 p)
 
-  pub by-indicator : (b : Bool) (s : List ℕ) → measureItem b l mode f s ≡ told (measureIndicator b s) (λ k. measureValue l mode f (drop k s))
+  by-indicator : (b : Bool) (s : List ℕ) → measureItem b l mode f s ≡ told (measureIndicator b s) (λ k. measureValue l mode f (drop k s))
   unfolding measureIndicator measureItem measureNullable
   by-indicator false s = moved-0 (measureValue l mode f s)
   by-indicator true [] = refl

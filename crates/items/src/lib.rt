@@ -14,8 +14,8 @@ use terminated::refusal;
 // The length field is below 0, or over a field length above 0.
 const BAD_COUNT: u8 = 14;
 
-// A value of F bytes.
-fn fixed_value(s: &[u8], f: usize) -> Measured
+// A value of F bytes, which is the whole item of a form without a null indicator.
+pub fn fixed_value(s: &[u8], f: usize) -> Measured
     ensures { λ r. ⌜ r ≡ answer (measureFixed f (now (s .entry))) ⌝ }
 {
     if f <= s.len() {

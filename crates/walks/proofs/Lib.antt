@@ -1,5 +1,6 @@
 pub mod Parts
 pub mod Going
+pub mod Steps
 pub mod Marking
 pub mod Passing
 pub mod Rows

@@ -298,15 +298,15 @@ module _ (es s es′ xs : List ℕ) (before once o p k m e : ℕ) (w : Passing e
           let t : fs ≡ rows = take-all m rows (omega (arith, f .once-is)) in
           ap (λ n. rowsFrom n p rows rows (drop p s)) q ∙ rows-through rows rows less p (drop p s) ∙ ap (λ l. cutFrom p l (drop p s) >>= then-on) (sym t)
 
-      refused-pass : r .last .number ≢ 0 → rowsFrom (now rows f .room) p rows rows (drop p s) ≡ refuse (r .last .number) (r .at)
+      refused-pass : r .number ≢ 0 → rowsFrom (now rows f .room) p rows rows (drop p s) ≡ refuse (r .number) (r .at)
       refused-pass z =
           by-order m once (λ h. short h ∙ ap (λ x. x >>= λ c. refuse 10 (c .end)) (own .stops z)) (λ q. full (omega arith) ∙ ap (λ x. x >>= then-on) (own .stops z))
           (λ h. full (omega arith) ∙ ap (λ x. x >>= then-on) (own .stops z))
 
-      pub pass-stop : (a : Passed) → r .last .number ≢ 0 → a ≡ record { number = r .last .number; place = r .at; count = 0 } → MarkedPasses a es after before o rows s
-      pass-stop a z x = answer-refused a es after s before o rows (r .last .number) (r .at) after-long (goes (refuse (r .last .number) (r .at)) (refused-pass z)) x
+      pub pass-stop : (a : Passed) → r .number ≢ 0 → a ≡ record { number = r .number; place = r .at; count = 0 } → MarkedPasses a es after before o rows s
+      pass-stop a z x = answer-refused a es after s before o rows (r .number) (r .at) after-long (goes (refuse (r .number) (r .at)) (refused-pass z)) x
 
-      pub pass-full : (a : Passed) → r .last .number ≡ 0 → m < once → a ≡ record { number = 10; place = r .at; count = 0 } → MarkedPasses a es after before o rows s
+      pub pass-full : (a : Passed) → r .number ≡ 0 → m < once → a ≡ record { number = 10; place = r .at; count = 0 } → MarkedPasses a es after before o rows s
       pass-full a z h x =
           answer-refused a es after s before o rows 10 (r .at) after-long
           (goes (refuse 10 (r .at)) (short h ∙ ap (λ x. x >>= λ c. refuse 10 (c .end)) (own .through z .cut))) x
@@ -335,7 +335,7 @@ module _ (es s es′ xs : List ℕ) (before once o p k m e : ℕ) (w : Passing e
               take-map (λ e. e % 281474976710656) (wide es before once) (drop before after) ∙ ap unmarked t
               ∙ sym (take-map (λ e. e % 281474976710656) (wide es before once) (drop before es′)) ∙ now rows f .pass-there
 
-      taken-on : r .last .number ≡ 0 → once ≤ m → PassingFor es s after before once o (r .at) e rows
+      taken-on : r .number ≡ 0 → once ≤ m → PassingFor es s after before once o (r .at) e rows
       taken-on z h =
           let t = own .through z in
           let old : List Note = now rows f .notes in
@@ -359,7 +359,7 @@ module _ (es s es′ xs : List ℕ) (before once o p k m e : ℕ) (w : Passing e
           both a b (refuse n q) = refl
           both a b (ok ns) = ap (λ l. ok l) (sym (append-assoc a b ns))
 
-    pub pass-more : IsPassPlan es before once → r .last .number ≡ 0 → once ≤ m → r .at ≤ length s → Passing es s after before once o (r .at) e
+    pub pass-more : IsPassPlan es before once → r .number ≡ 0 → once ≤ m → r .at ≤ length s → Passing es s after before once o (r .at) e
     pass-more x z h l =
         record {
           among = omega (arith, w .among, w .same-length);

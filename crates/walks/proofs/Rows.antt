@@ -79,10 +79,10 @@ module _ (es s : List ℕ) (before once : ℕ) where
           let e : length es ≡ length bs + (length es - before) = omega (arith, f .before-is, f .has-room) in
           ap (λ n. rowsFrom n 0 rows bs s) e ∙ rows-through rows bs (length es - before) 0 s
 
-      pub first-stop : (a : Passed) → r .last .number ≢ 0 → a ≡ record { number = r .last .number; place = r .at; count = 0 } → MarkedRows a es after bs rows s
+      pub first-stop : (a : Passed) → r .number ≢ 0 → a ≡ record { number = r .number; place = r .at; count = 0 } → MarkedRows a es after bs rows s
       unfolding passedOf
       first-stop a z x =
-          let e : rowsFrom (length es) 0 rows bs s ≡ refuse (r .last .number) (r .at) = through ∙ ap (λ x. x >>= onward) (own .stops z) in
+          let e : rowsFrom (length es) 0 rows bs s ≡ refuse (r .number) (r .at) = through ∙ ap (λ x. x >>= onward) (own .stops z) in
           record {
             answered = rw e x;
             marks = λ ns y. absurd (let z : _≡_ {A = ℕ} 0 1 = cc in let o : ⊥ = omega arith in o);
@@ -100,7 +100,7 @@ module _ (es s : List ℕ) (before once : ℕ) where
             entries = rw (long, drop-at ys (drop before es) before ys-long) (pass-entries bs rows f);
           }
 
-      module _ (z : r .last .number ≡ 0) (a : Passed) (plan : List ℕ) where
+      module _ (z : r .number ≡ 0) (a : Passed) (plan : List ℕ) where
         abbrev notes : List Note
         notes = own .through z .notes
 
@@ -132,13 +132,13 @@ module _ (es s : List ℕ) (before once : ℕ) where
               few = omega (arith, w .few, long);
             }
 
-    pub passes-asked : IsRowPlan es before once → r .last .number ≡ 0 → IsPassPlan after before once
+    pub passes-asked : IsRowPlan es before once → r .number ≡ 0 → IsPassPlan after before once
     passes-asked x z = record { rows = x .rows; pass-plan = pass-plan (x .fields-before) (x .rows) (x .row-plan) }
 
     pub after-fits : IsRowPlan es before once → length es ≤ 4096 → length after ≤ 4096
     after-fits x h = omega (arith, long (x .fields-before) (x .rows) (x .row-plan))
 
-    pub rows-marked : r .last .number ≡ 0 → (a : Passed) (plan : List ℕ)
+    pub rows-marked : r .number ≡ 0 → (a : Passed) (plan : List ℕ)
         → ((rows : List Field) → PassPlan after before once rows → MarkedPasses a after plan before (r .at) rows s) → (bs rows : List Field)
         → RowPlan es before once bs rows → MarkedRows a es plan bs rows s
     rows-marked z a plan each bs rows f = joined bs rows f z a plan (each rows (pass-plan bs rows f))

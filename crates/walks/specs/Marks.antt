@@ -2,18 +2,17 @@
 use Prim.Native.Nat.{ℕ, _+_, _*_, _/_, _%_}
 use mathlib.Core.Path.{_≡_}
 use mathlib.Core.Logic.{_≢_}
-use mathlib.Core.Bool.{false}
 use mathlib.Core.List.{List, [], _∷_, _++_, map}
 use lib.ListN.{length, drop}
 use Rattle.fdoca.specs.Basics.{Result, refuse, ok}
 use Rattle.fdoca.specs.Item.{Field, measure}
 use Rattle.fdoca.specs.Item as defined
 use Rattle.fdoca.specs.Walk.{Note, itemLength, noteOf, cutFrom, walk}
-use Rattle.terminated.specs.declared.Measured.{Measured}
 use Rattle.terminated.specs.Answer.{answer}
 use Rattle.fields.specs.Plan.{entryOf, Proper}
 use Rattle.walks.specs.declared.Stop.{Stop}
 use Rattle.walks.specs.declared.Reached.{Reached}
+use Rattle.walks.specs.Entry.{stepOf}
 
 unfoldable pub stopOf : Result (List Note) → Stop
 stopOf (refuse n p) = record { number = n; place = p }
@@ -33,14 +32,14 @@ marksFrom p [] s = []
 marksFrom p (f ∷ fs) s =
     markOr (noteOf f p (measure f s)) (λ n. marksFrom (p + itemLength n) fs (drop (itemLength n) s)) (map entryOf (f ∷ fs))
 
--- How the last of some noted items was measured; where there is none, as nothing at all.
-unfoldable pub lastOf : List Note → Measured
-lastOf [] = answer (defined.item false 0 0 0)
-lastOf (n ∷ []) = answer (defined.item (n .isNull) (n .lead) (n .value) (n .spare))
+-- The last of some noted items as one number, and 0 where there is none.
+unfoldable pub lastOf : List Note → ℕ
+lastOf [] = 0
+lastOf (n ∷ []) = stepOf (answer (defined.item (n .isNull) (n .lead) (n .value) (n .spare)))
 lastOf (n ∷ m ∷ ns) = lastOf (m ∷ ns)
 
 -- The answer r of a walk over the fields fs from the place o of the data s on, and the part of a plan that it leaves: an item's refusal, or the place
--- behind the items, and how the last of them was measured.
+-- behind the items, and the last of them.
 pub record Through (r : Reached) (o : ℕ) (part : List ℕ) (fs : List Field) (s : List ℕ) : Type 0 where
   pub notes : List Note
   pub cut : cutFrom o fs (drop o s) ≡ ok (record { notes = notes; end = r .at; rest = drop (r .at) s })
@@ -49,8 +48,8 @@ pub record Through (r : Reached) (o : ℕ) (part : List ℕ) (fs : List Field) (
 
 pub record MarkedPart (r : Reached) (o : ℕ) (part : List ℕ) (fs : List Field) (s : List ℕ) : Type 0 where
   pub marks : part ≡ marksFrom o fs (drop o s)
-  pub stops : r .last .number ≢ 0 → cutFrom o fs (drop o s) ≡ refuse (r .last .number) (r .at)
-  pub through : r .last .number ≡ 0 → Through r o part fs s
+  pub stops : r .number ≢ 0 → cutFrom o fs (drop o s) ≡ refuse (r .number) (r .at)
+  pub through : r .number ≡ 0 → Through r o part fs s
 
 -- The answer of a walk over the fields fs and the data s, and the plan that it leaves.
 pub record Marked (r : Stop) (plan : List ℕ) (fs : List Field) (s : List ℕ) : Type 0 where

@@ -8,12 +8,11 @@ ghost use Rattle.fdoca.specs.Basics.{refuse};
 ghost use Rattle.fdoca.specs.Item.{Field};
 ghost use Rattle.terminated.specs.Answer.{answer};
 ghost use Rattle.fields.specs.Plan.{Planned};
-ghost use Rattle.walks.specs.Entry.{measureEntry};
+ghost use Rattle.walks.specs.Entry.{measureEntry, isPlain, lengthsOf, stepOf, Stepped};
 ghost use Rattle.walks.specs.Marks.{MarkedPart, Marked, listBy};
 ghost use Rattle.walks.specs.Finding.{IsPlan, IsMark, FoundBy};
 ghost use Rattle.walks.specs.Passes.{unmarked, Apart, PassPlan, IsPassPlan, MarkedPasses, RowPlan, IsRowPlan, MarkedRows};
 use terminated::Measured;
-use terminated::found;
 
 // Where the walk stops: number and place of a refusal, zeros if the block is good.
 pub struct Stop {
@@ -52,6 +51,16 @@ const LAYOUT: u64 = 1099511627776;
 
 const POSITION: u64 = 281474976710656;
 
+// Where the parts of an item as one number begin, behind its length: null mark, lead, spare.
+const NULL: usize = 131072;
+
+const LEAD: usize = 1048576;
+
+const SPARE: usize = 68719476736;
+
+// More than any item as one number.
+const REFUSED: usize = 1152921504606846976;
+
 // The item at a place of the data, by its entry in the plan. It lies within the data.
 pub fn item_at(entry: u64, data: &[u8], at: usize) -> Measured
     requires { ⌜ at ≤ length (now «data») ⌝ }
@@ -65,27 +74,77 @@ pub fn item_at(entry: u64, data: &[u8], at: usize) -> Measured
 }
 
 // The walk's answer, with a place in the data.
-fn stopped(number: u8, at: usize) -> Stop
+fn stopped(number: u32, at: usize) -> Stop
     requires { ⌜ at ≤ 32768 ⌝ }
     ensures { λ r. ⌜ r ≡ record { number = number; place = at } ⌝ }
 {
     Stop {
-        number: number as u32,
+        number: number,
         place: at as u32,
     }
 }
 
-// Where the walk over a part of a plan has come to: the place behind its last item, and how that was measured; or an item's refusal and the
-// item's place.
-pub struct Reached {
-    pub last: Measured,
-    pub at: usize,
+// Whether the items of an entry are F bytes without a null indicator.
+fn plain(entry: u64) -> bool
+    ensures { λ r. ⌜ r ≡ isPlain entry ⌝ }
+{
+    if 128 <= entry / CODE % 256 {
+        return false;
+    }
+    entry / LAYOUT % 4 == 0
 }
 
-fn came_to(last: Measured, at: usize) -> Reached
-    ensures { λ r. ⌜ r ≡ record { last = last; at = at } ⌝ }
+// An item's three lengths as one number: their sum, the lead and the spare.
+fn lengths(m: Measured) -> usize
+    requires { ⌜ m .lead + m .value + m .spare ≤ 32768 ⌝ }
+    ensures { λ r. ⌜ r ≡ lengthsOf m ⌝ }
 {
-    Reached { last: last, at: at }
+    let sum = m.lead + m.value + m.spare;
+    sum + m.lead * LEAD + m.spare * SPARE
+}
+
+// What was measured as one number: an item's lengths and null mark, or REFUSED and the number of a refusal.
+fn step_of(m: Measured) -> usize
+    requires { ⌜ m .lead + m .value + m .spare ≤ 32768 ⌝ }
+    ensures { λ r. ⌜ r ≡ stepOf m ⌝ }
+{
+    if m.number != 0 {
+        return REFUSED + m.number as usize;
+    }
+    if m.null {
+        return lengths(m) + NULL;
+    }
+    lengths(m)
+}
+
+// The item at a place of the data as one number. One of F bytes without a null indicator needs no more than that to be measured.
+fn step_at(entry: u64, data: &[u8], at: usize) -> usize
+    requires { ⌜ (at ≤ length (now «data»)) × (length (now «data») ≤ 32768) ⌝ }
+    ensures { λ r. ⌜ Stepped entry (now («data» .entry)) at r ⌝ }
+{
+    if plain(entry) {
+        let f = (entry % ID) as usize;
+        return step_of(items::fixed_value(&data[at..], f));
+    }
+    step_of(item_at(entry, data, at))
+}
+
+// Where the walk over a part of a plan has come to: the place behind its last item, and that item as one number; or an item's refusal and the
+// item's place.
+pub struct Reached {
+    pub number: u32,
+    pub at: usize,
+    pub last: usize,
+}
+
+fn came_to(number: u32, at: usize, last: usize) -> Reached
+    ensures { λ r. ⌜ r ≡ record { number = number; at = at; last = last } ⌝ }
+{
+    Reached {
+        number: number,
+        at: at,
+        last: last,
+    }
 }
 
 // The walk over a part of a plan, from a place of the data on. The entry of an item gets its position in the highest 16 bits, up to the item that
@@ -96,19 +155,19 @@ fn mark_part(part: &mut [u64], data: &[u8], from: usize) -> Reached
     ensures { λ r. ⌜ r .at ≤ length (now («data» .entry)) ⌝ }
 {
     let mut at = from;
-    let mut last = found(0, 0, 0);
+    let mut last = 0;
     let mut k = 0;
     while k < part.len() {
         let entry = part[k];
-        last = item_at(entry, data, at);
-        if last.number != 0 {
-            return came_to(last, at);
+        last = step_at(entry, data, at);
+        if REFUSED <= last {
+            return came_to((last - REFUSED) as u32, at, 0);
         }
         part[k] = entry % POSITION + at as u64 * POSITION;
-        at += last.lead + last.value + last.spare;
+        at += last % 65536;
         k += 1;
     }
-    came_to(last, at)
+    came_to(0, at, last)
 }
 
 // The walk over the whole plan and the data.
@@ -117,8 +176,8 @@ pub fn mark(plan: &mut [u64], data: &[u8]) -> Stop
     ensures { λ r. ⌜ ((fs : List Field) → Planned (now (plan .entry)) fs → Marked r (now (plan .exit)) fs (now («data» .entry))) ⌝ }
 {
     let r = mark_part(plan, data, 0);
-    if r.last.number != 0 {
-        return stopped(r.last.number, r.at);
+    if r.number != 0 {
+        return stopped(r.number, r.at);
     }
     if r.at < data.len() {
         return stopped(16, r.at);
@@ -127,12 +186,12 @@ pub fn mark(plan: &mut [u64], data: &[u8]) -> Stop
 }
 
 // The answer of a walk over rows to the end, with a place in the data.
-fn ended(number: u8, at: usize, count: usize) -> Passed
+fn ended(number: u32, at: usize, count: usize) -> Passed
     requires { ⌜ at ≤ 32768 ⌝ }
     ensures { λ r. ⌜ r ≡ record { number = number; place = at; count = count } ⌝ }
 {
     Passed {
-        number: number as u32,
+        number: number,
         place: at as u32,
         count: count,
     }
@@ -168,8 +227,8 @@ fn mark_passes(plan: &mut [u64], before: usize, once: usize, data: &[u8], from: 
         copy_pass(plan, before, k, m);
         let end = k + m;
         let r = mark_part(&mut plan[k..end], data, at);
-        if r.last.number != 0 {
-            return ended(r.last.number, r.at, 0);
+        if r.number != 0 {
+            return ended(r.number, r.at, 0);
         }
         if m < once {
             return ended(10, r.at, 0);
@@ -187,8 +246,8 @@ pub fn mark_rows(plan: &mut [u64], before: usize, once: usize, data: &[u8]) -> P
         → MarkedRows r (now (plan .entry)) (now (plan .exit)) bs rows (now («data» .entry))) ⌝ }
 {
     let first = mark_part(&mut plan[..before], data, 0);
-    if first.last.number != 0 {
-        return ended(first.last.number, first.at, 0);
+    if first.number != 0 {
+        return ended(first.number, first.at, 0);
     }
     mark_passes(plan, before, once, data, first.at)
 }
@@ -225,16 +284,19 @@ pub fn item_of(marked: u64, data: &[u8]) -> Found
     let start = (marked / POSITION) as usize;
     let entry = marked % POSITION;
     let mut alone = [entry; 1];
-    let r = mark_part(&mut alone, data, start);
-    let m = r.last;
+    let item = mark_part(&mut alone, data, start).last;
+    let lead = item / LEAD % 65536;
+    let spare = item / SPARE % 65536;
+    let behind = item % 65536 - lead;
+    let value = behind - spare;
     Found {
         number: 0,
         place: 0,
         start: start,
-        null: m.null,
-        lead: m.lead,
-        value: m.value,
-        spare: m.spare,
+        null: 1 <= item / NULL % 2,
+        lead: lead,
+        value: value,
+        spare: spare,
         entry: entry,
     }
 }

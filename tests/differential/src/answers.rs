@@ -29,7 +29,9 @@ extern "C" {
         place: &mut u32,
         is_null: &mut u32,
         type_code: &mut u32,
-        value_length: &mut u32,
+        lead: &mut u32,
+        value: &mut u32,
+        spare: &mut u32,
     ) -> u32;
 
     fn fdoca_lend(
@@ -107,12 +109,14 @@ impl<T, R: Default + From<T>> From<Result<T, Refusal>> for Answer<R> {
     }
 }
 
-/// An item's state. The null mark is 0 or 1.
+/// An item's state, with the lengths of its parts. The null mark is 0 or 1.
 #[derive(Clone, Copy, Debug, Default, PartialEq, Eq)]
 pub struct State {
     pub is_null: u32,
     pub type_code: u32,
-    pub value_length: u32,
+    pub lead: u32,
+    pub value: u32,
+    pub spare: u32,
 }
 
 impl From<reader::State> for State {
@@ -120,7 +124,9 @@ impl From<reader::State> for State {
         State {
             is_null: state.is_null.into(),
             type_code: state.type_code.into(),
-            value_length: state.value_length,
+            lead: state.lead,
+            value: state.value,
+            spare: state.spare,
         }
     }
 }
@@ -220,7 +226,9 @@ pub fn state(descriptor: &[u8], data: &[u8], item: u32) -> Answer<State> {
     let mut results = State {
         is_null: UNWRITTEN,
         type_code: UNWRITTEN,
-        value_length: UNWRITTEN,
+        lead: UNWRITTEN,
+        value: UNWRITTEN,
+        spare: UNWRITTEN,
     };
     let number = unsafe {
         fdoca_state(
@@ -232,7 +240,9 @@ pub fn state(descriptor: &[u8], data: &[u8], item: u32) -> Answer<State> {
             &mut place,
             &mut results.is_null,
             &mut results.type_code,
-            &mut results.value_length,
+            &mut results.lead,
+            &mut results.value,
+            &mut results.spare,
         )
     };
     Answer {

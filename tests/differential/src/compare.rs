@@ -42,7 +42,7 @@ impl Comparison {
         let any = self.random.below(count.max(1) as usize) as u32;
         let last = count.saturating_sub(1);
         for item in [0, last, any, count, count + 1, u32::MAX] {
-            self.compare_item(block, item);
+            self.compare_item(descriptor, data, item);
         }
     }
 
@@ -72,8 +72,9 @@ impl Comparison {
         self.met(answer.number);
     }
 
-    fn compare_item(&mut self, block: Block, item: u32) {
-        let Block { descriptor, data } = block;
+    /// Compares the calls for one item.
+    pub fn compare_item(&mut self, descriptor: &[u8], data: &[u8], item: u32) {
+        let block = Block { descriptor, data };
         let state = answers::state(descriptor, data, item);
         let expected = reader::state(descriptor, data, item);
         self.agree(block, &format!("state of {item}"), state, expected.into());

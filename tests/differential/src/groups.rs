@@ -7,6 +7,7 @@ mod forms;
 mod layouts;
 mod limits;
 mod packed;
+mod parts;
 mod rows;
 
 use reader::generate::{Case, Generator};
@@ -19,7 +20,7 @@ pub struct Group {
     pub run: fn(&mut Comparison),
 }
 
-pub const GROUPS: [Group; 24] = [
+pub const GROUPS: [Group; 25] = [
     Group {
         name: "valid blocks of every form",
         run: forms::every_form,
@@ -111,6 +112,10 @@ pub const GROUPS: [Group; 24] = [
     Group {
         name: "valid and damaged rows to the end",
         run: rows::generated,
+    },
+    Group {
+        name: "lead, value and spare of every type and mode",
+        run: parts::every_part,
     },
     Group {
         name: "random bytes",

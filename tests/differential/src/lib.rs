@@ -19,8 +19,21 @@ pub fn state(descriptor: &[u8], data: &[u8], item: u32) -> Result<State, Refusal
     Ok(State {
         is_null: is_marked(state.is_null),
         type_code: state.type_code.try_into().expect("a type code of one byte"),
-        value_length: state.value_length,
+        lead: state.lead,
+        value: state.value,
+        spare: state.spare,
     })
+}
+
+pub fn state_numbers(descriptor: &[u8], data: &[u8], item: u32) -> [u32; 5] {
+    let state = answers::state(descriptor, data, item).results;
+    [
+        state.is_null,
+        state.type_code,
+        state.lead,
+        state.value,
+        state.spare,
+    ]
 }
 
 /// The part of the data that is lent.

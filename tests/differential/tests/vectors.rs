@@ -18,6 +18,8 @@ mod groups;
 mod limits;
 #[path = "../../reader/tests/vectors/packed.rs"]
 mod packed;
+#[path = "../../reader/tests/vectors/parts.rs"]
+mod parts;
 #[path = "../../reader/tests/vectors/rows.rs"]
 mod rows;
 #[path = "../../reader/tests/vectors/support.rs"]

@@ -52,13 +52,7 @@ impl Answers {
         flat.extend(call(&self.list, |()| []));
         flat.push(self.list_after.len() as u64);
         flat.extend(self.list_after.iter().map(|&entry| u64::from(entry)));
-        flat.extend(call(&self.state, |state| {
-            [
-                state.is_null.into(),
-                state.type_code.into(),
-                state.value_length.into(),
-            ]
-        }));
+        flat.extend(call(&self.state, |state| state.numbers().map(u64::from)));
         flat.push(self.lent.len() as u64);
         flat.extend(self.lent.iter().map(|&byte| u64::from(byte)));
         flat.extend(call(&self.whole, |whole| {

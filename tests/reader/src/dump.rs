@@ -17,7 +17,7 @@ fn listing(file: &[u8]) -> Result<String, Refusal> {
     for (item, note) in notes.iter().enumerate() {
         let length = match note.is_null {
             true => "null".to_string(),
-            false => note.value.len().to_string(),
+            false => note.parts.value.to_string(),
         };
         text += &format!("{item} {} {} {length}\n", note.start, note.type_code);
     }

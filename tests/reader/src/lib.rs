@@ -19,7 +19,7 @@ pub use descriptor::{unfold, Rows, Unfolding, MAX_DESCRIPTOR, MAX_ITEMS};
 pub use dump::dump;
 pub use field::Field;
 pub use refusal::*;
-pub use walk::{walk, Note, MAX_DATA};
+pub use walk::{walk, Note, Parts, MAX_DATA};
 
 use field::Form;
 
@@ -54,12 +54,27 @@ fn require_room(list: &[u32], count: usize) -> Result<(), Refusal> {
     }
 }
 
-/// An item's state.
+/// An item's state, with the lengths of its parts.
 #[derive(Clone, Copy, Debug, Default, PartialEq, Eq)]
 pub struct State {
     pub is_null: bool,
     pub type_code: u8,
-    pub value_length: u32,
+    pub lead: u32,
+    pub value: u32,
+    pub spare: u32,
+}
+
+impl State {
+    /// The state as numbers: null mark, type code, lead, value, spare.
+    pub fn numbers(&self) -> [u32; 5] {
+        [
+            self.is_null.into(),
+            self.type_code.into(),
+            self.lead,
+            self.value,
+            self.spare,
+        ]
+    }
 }
 
 /// Tells an item's state.
@@ -67,8 +82,15 @@ pub fn state(descriptor: &[u8], data: &[u8], item: u32) -> Result<State, Refusal
     find(descriptor, data, item).map(|(_, note)| State {
         is_null: note.is_null,
         type_code: note.type_code,
-        value_length: note.value.len() as u32,
+        lead: note.parts.lead as u32,
+        value: note.parts.value as u32,
+        spare: note.parts.spare as u32,
     })
+}
+
+/// An item's state as numbers, which are zeros on a refusal.
+pub fn state_numbers(descriptor: &[u8], data: &[u8], item: u32) -> [u32; 5] {
+    state(descriptor, data, item).unwrap_or_default().numbers()
 }
 
 /// Lends an item's value: the part of the data that holds it, empty for a null
@@ -76,7 +98,7 @@ pub fn state(descriptor: &[u8], data: &[u8], item: u32) -> Result<State, Refusal
 pub fn lend<'b>(descriptor: &[u8], data: &'b [u8], item: u32) -> &'b [u8] {
     find(descriptor, data, item)
         .ok()
-        .and_then(|(_, note)| data.get(note.value))
+        .and_then(|(_, note)| data.get(note.value()))
         .unwrap_or_default()
 }
 
@@ -90,7 +112,7 @@ pub struct Whole {
 /// Reads a whole-number item.
 pub fn whole_number(descriptor: &[u8], data: &[u8], item: u32) -> Result<Whole, Refusal> {
     let (field, note) = find(descriptor, data, item)?;
-    let bytes = &data[note.value];
+    let bytes = &data[note.value()];
     let value = match field.plain_type() {
         0x23 => signed(bytes.iter()),
         0x24 => signed(bytes.iter().rev()),
@@ -127,7 +149,8 @@ pub fn packed(descriptor: &[u8], data: &[u8], item: u32) -> Result<Packed, Refus
     let value = match note.is_null {
         true => 0,
         false => {
-            decimal(&data[note.value], field.digits()).ok_or(Refusal::at(BAD_DIGIT, note.start))?
+            let digits = decimal(&data[note.value()], field.digits());
+            digits.ok_or(Refusal::at(BAD_DIGIT, note.start))?
         }
     };
     Ok(Packed {

@@ -17,10 +17,33 @@ pub struct Note {
     pub id: u8,
     pub type_code: u8,
     pub is_null: bool,
+    pub parts: Parts,
+}
+
+impl Note {
     /// Where in the data the value lies; empty for a null.
-    pub value: Range<usize>,
-    /// All bytes of the item, null indicator and reserved space included.
-    pub length: usize,
+    pub fn value(&self) -> Range<usize> {
+        let start = self.start + self.parts.lead;
+        start..start + self.parts.value
+    }
+}
+
+/// The lengths of an item's parts: what precedes the value, the value, and what follows it.
+/// A null is all lead.
+#[derive(Clone, Copy, Debug, Default, PartialEq, Eq)]
+pub struct Parts {
+    /// Null indicator and length field.
+    pub lead: usize,
+    pub value: usize,
+    /// Terminator and reserved space.
+    pub spare: usize,
+}
+
+impl Parts {
+    /// All bytes of the item.
+    pub fn total(&self) -> usize {
+        self.lead + self.value + self.spare
+    }
 }
 
 /// Measures the item of each field in turn.
@@ -57,10 +80,9 @@ impl Walk<'_> {
             id: field.id(),
             type_code: field.type_code(),
             is_null: item.is_null,
-            value: start + item.value.start..start + item.value.end,
-            length: item.length,
+            parts: item.parts,
         });
-        self.start += item.length;
+        self.start += item.parts.total();
         Ok(())
     }
 
@@ -89,45 +111,41 @@ impl Walk<'_> {
 /// An item at the front of some bytes.
 struct Item {
     is_null: bool,
-    value: Range<usize>,
-    length: usize,
-}
-
-impl Item {
-    fn of_value(value: Range<usize>, length: usize) -> Item {
-        Item {
-            is_null: false,
-            value,
-            length,
-        }
-    }
+    parts: Parts,
 }
 
 fn measure(field: &Field, bytes: &[u8]) -> Result<Item, u32> {
     if !field.is_nullable() {
-        return measure_value(field, bytes);
-    }
-    let (indicator, rest) = bytes.split_first().ok_or(SHORT_DATA)?;
-    if indicator & NO_VALUE != 0 {
         return Ok(Item {
-            is_null: true,
-            value: 1..1,
-            length: 1,
+            is_null: false,
+            parts: measure_value(field, bytes)?,
         });
     }
-    let item = measure_value(field, rest)?;
-    Ok(Item::of_value(
-        item.value.start + 1..item.value.end + 1,
-        item.length + 1,
-    ))
+    let (indicator, rest) = bytes.split_first().ok_or(SHORT_DATA)?;
+    let is_null = indicator & NO_VALUE != 0;
+    let behind = match is_null {
+        true => Parts::default(),
+        false => measure_value(field, rest)?,
+    };
+    Ok(Item {
+        is_null,
+        parts: Parts {
+            lead: 1 + behind.lead,
+            ..behind
+        },
+    })
 }
 
-fn measure_value(field: &Field, bytes: &[u8]) -> Result<Item, u32> {
+/// The parts of an item without its null indicator.
+fn measure_value(field: &Field, bytes: &[u8]) -> Result<Parts, u32> {
     match field.form() {
         Form::Fixed | Form::Packed => {
-            let length = field.field_length();
-            let body = bytes.get(..length).ok_or(SHORT_DATA)?;
-            Ok(Item::of_value(0..body.len(), length))
+            let body = bytes.get(..field.field_length()).ok_or(SHORT_DATA)?;
+            Ok(Parts {
+                lead: 0,
+                value: body.len(),
+                spare: 0,
+            })
         }
         Form::Variable => match *bytes {
             [high, low, ..] => {
@@ -145,29 +163,38 @@ fn measure_value(field: &Field, bytes: &[u8]) -> Result<Item, u32> {
     }
 }
 
-/// An item whose value has `count` bytes after a length field of `lead` bytes.
-fn measure_counted(field: &Field, bytes: &[u8], lead: usize, count: usize) -> Result<Item, u32> {
+/// An item whose value has `count` bytes after a length field of `lead` bytes. Mode 0 with F
+/// above 0 sends F bytes: what the value leaves of them is spare.
+fn measure_counted(field: &Field, bytes: &[u8], lead: usize, count: usize) -> Result<Parts, u32> {
     let field_length = field.field_length();
     if field_length > 0 && count > field_length {
         return Err(BAD_COUNT);
     }
-    let body = if field_length > 0 && field.mode() == 0 {
-        field_length
-    } else {
-        count
+    let parts = Parts {
+        lead,
+        value: count,
+        spare: match field.mode() {
+            0 => field_length.saturating_sub(count),
+            _ => 0,
+        },
     };
-    let length = lead + body;
-    if bytes.len() < length {
-        return Err(SHORT_DATA);
+    match bytes.len() < parts.total() {
+        true => Err(SHORT_DATA),
+        false => Ok(parts),
     }
-    Ok(Item::of_value(lead..lead + count, length))
 }
 
-fn measure_null_terminated(field: &Field, bytes: &[u8]) -> Result<Item, u32> {
+/// The zero byte that ends the value belongs to the spare.
+fn measure_null_terminated(field: &Field, bytes: &[u8]) -> Result<Parts, u32> {
+    let ended = |value, spare| Parts {
+        lead: 0,
+        value,
+        spare,
+    };
     let is_zero = |byte: &u8| *byte == 0;
     if field.field_length() == 0 {
         let end = bytes.iter().position(is_zero).ok_or(SHORT_DATA)?;
-        return Ok(Item::of_value(0..end, end + 1));
+        return Ok(ended(end, 1));
     }
     let space = field.field_length() + 1;
     let sends_all = field.mode() == 0;
@@ -175,8 +202,8 @@ fn measure_null_terminated(field: &Field, bytes: &[u8]) -> Result<Item, u32> {
         return Err(SHORT_DATA);
     }
     match bytes.iter().take(space).position(is_zero) {
-        Some(end) if sends_all => Ok(Item::of_value(0..end, space)),
-        Some(end) => Ok(Item::of_value(0..end, end + 1)),
+        Some(end) if sends_all => Ok(ended(end, space - end)),
+        Some(end) => Ok(ended(end, 1)),
         None if bytes.len() < space => Err(SHORT_DATA),
         None => Err(NO_END),
     }

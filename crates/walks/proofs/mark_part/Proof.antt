@@ -4,6 +4,7 @@ use borrow.Author.Needs.{needs, set-long}
 use Prim.Native.Nat.{_≤_, _-_}
 use mathlib.Core.Path.{_≡_}
 use lib.ListN.{length}
+use Rattle.walks.proofs.Steps.{step-inside}
 use Rattle.walks.proofs.Marking.{Marking, mark-start, mark-more, mark-stop, mark-done, reached-inside}
 use Rattle.walks.proofs.mark_part.Statement.{statement}
 use Rattle.walks.proofs.mark_part.Tie as tie
@@ -14,9 +15,6 @@ Inv-loop part₀ «data» from at₀ last₀ k₀ part at last k = (k ≤ length
 abbrev μ-loop : tie.MeasureT-loop
 μ-loop part₀ «data» from at₀ last₀ k₀ part at last k = length part₀ - k
 
-found-requires : tie.Need-found-requires Inv-loop μ-loop
-found-requires c κs = search needs
-
 loop-holds : tie.Need-loop-holds Inv-loop μ-loop
 loop-holds c = search (needs, mark-start)
 
@@ -26,8 +24,11 @@ mul-entry c = search needs
 slice-read-entry : tie.Need-slice-read-entry Inv-loop μ-loop
 slice-read-entry c = search needs
 
-item-at-requires : tie.Need-item-at-requires Inv-loop μ-loop
-item-at-requires c κs = search needs
+step-at-requires : tie.Need-step-at-requires Inv-loop μ-loop
+step-at-requires c κs = search needs
+
+cast-came-to : tie.Need-cast-came-to Inv-loop μ-loop
+cast-came-to c = search needs
 
 came-to-requires : tie.Need-came-to-requires Inv-loop μ-loop
 came-to-requires c κs = search needs
@@ -53,12 +54,6 @@ slice-write-part c = search needs
 add-at : tie.Need-add-at Inv-loop μ-loop
 add-at c = search needs
 
-add-at-2 : tie.Need-add-at-2 Inv-loop μ-loop
-add-at-2 c = search needs
-
-add-at-3 : tie.Need-add-at-3 Inv-loop μ-loop
-add-at-3 c = search needs
-
 add-k : tie.Need-add-k Inv-loop μ-loop
 add-k c = search needs
 
@@ -66,7 +61,7 @@ loop-less : tie.Need-loop-less Inv-loop μ-loop
 loop-less c = search needs
 
 loop-again : tie.Need-loop-again Inv-loop μ-loop
-loop-again c = (search needs, (search needs, (search (needs, set-long), search mark-more)))
+loop-again c = (search needs, (search (needs, step-inside), (search (needs, set-long), search mark-more)))
 
 came-to-requires-2 : tie.Need-came-to-requires-2 Inv-loop μ-loop
 came-to-requires-2 c κs = search needs
@@ -83,11 +78,11 @@ mark-part-spec =
     (tie.spec
     Inv-loop
     μ-loop
-    found-requires
     loop-holds
     mul-entry
     slice-read-entry
-    item-at-requires
+    step-at-requires
+    cast-came-to
     came-to-requires
     same-length
     returns
@@ -96,8 +91,6 @@ mark-part-spec =
     mul-part-2
     slice-write-part
     add-at
-    add-at-2
-    add-at-3
     add-k
     loop-less
     loop-again

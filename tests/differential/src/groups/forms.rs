@@ -5,7 +5,7 @@ use std::collections::BTreeSet;
 
 use differential::triplets::{triplets, CPT, GDA, ISD, RLO, SDA};
 use reader::generate::{Case, Generator};
-use reader::{unfold, walk, Field, Unfolding};
+use reader::{unfold, walk, Field, Note, Unfolding};
 
 use super::is_accepted;
 use crate::compare::Comparison;
@@ -18,6 +18,10 @@ enum Form {
         mode: u8,
         has_length: bool,
     },
+    /// The type code of a null.
+    Null(u8),
+    /// The type code of a string with reserved space, and whether its value leaves some of that.
+    Reserved(u8, bool),
     /// The digits of a packed decimal.
     Digits(u8),
     /// The type code of a float whose field length gives way to the type's default.
@@ -93,7 +97,11 @@ fn all_forms() -> BTreeSet<Form> {
     forms.extend((1..=18).map(Form::Digits));
     forms.extend([0x40, 0x47, 0x48, 0xC0, 0xC7, 0xC8].map(Form::Default));
     for (plain, modes, lengths) in TYPES {
+        forms.insert(Form::Null(plain + 0x80));
         for type_code in [plain, plain + 0x80] {
+            if modes.len() > 1 {
+                forms.extend([false, true].map(|is_left| Form::Reserved(type_code, is_left)));
+            }
             forms.extend([false, true].map(|is_put_in| Form::Column(type_code, is_put_in)));
             for &mode in modes {
                 forms.extend(lengths.iter().map(|&has_length| Form::Field {
@@ -112,6 +120,8 @@ fn forms(case: &Case) -> Vec<Form> {
     let notes = walk(&unfolding, &case.data).expect("a good block");
     let fields = unfolding.first(notes.len());
     let mut forms: Vec<Form> = fields.iter().map(field_form).collect();
+    let items = fields.iter().zip(&notes);
+    forms.extend(items.filter_map(|(field, note)| part_form(field, note)));
     let packed = fields.iter().filter(|field| field.plain_type() == 0x30);
     forms.extend(packed.map(|field| Form::Digits(field.parameters()[6])));
     forms.extend(rows_forms(&unfolding, notes.len()));
@@ -161,6 +171,17 @@ fn field_form(field: &Field) -> Form {
         mode: field.mode(),
         has_length: field.field_length() > 0,
     }
+}
+
+fn part_form(field: &Field, note: &Note) -> Option<Form> {
+    let type_code = field.type_code();
+    if note.is_null {
+        return Some(Form::Null(type_code));
+    }
+    let is_string = matches!(field.plain_type(), 0x02 | 0x03 | 0x07);
+    let is_reserved = is_string && field.mode() == 0 && field.field_length() > 0;
+    let is_left = note.parts.value < field.field_length();
+    is_reserved.then_some(Form::Reserved(type_code, is_left))
 }
 
 /// The form of an SDA with a field of its own for which other parameters hold.

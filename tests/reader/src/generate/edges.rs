@@ -4,6 +4,7 @@
 mod columns;
 mod floats;
 mod packed;
+mod parts;
 mod rows;
 
 use super::fitting;
@@ -32,6 +33,7 @@ pub fn edges() -> Vec<Case> {
     cases.extend(floats::blocks());
     cases.extend(columns::blocks());
     cases.extend(rows::blocks());
+    cases.extend(parts::blocks());
     cases
 }
 

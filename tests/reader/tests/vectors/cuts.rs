@@ -3,16 +3,22 @@
 
 use reader::*;
 
-use crate::support::{assert_block, assert_wrong_kinds, hex, rows, Answer};
+use crate::support::{assert_block, assert_lent, assert_wrong_kinds, hex, lengths, rows, Answer};
 
-/// An item as it is listed: id, type code, and its bytes with the value in brackets. A null
-/// has no value.
+/// An item as it is listed: id, type code, and its bytes with the value in brackets, which
+/// divide them into lead, value and spare. A null has no brackets: it is all lead.
 pub struct Item {
     id: u8,
     type_code: u8,
     start: usize,
-    bytes: Vec<u8>,
-    value: Option<Vec<u8>>,
+    is_null: bool,
+    parts: [Vec<u8>; 3],
+}
+
+impl Item {
+    fn bytes(&self) -> Vec<u8> {
+        self.parts.concat()
+    }
 }
 
 /// The items of a row, one behind the other.
@@ -22,16 +28,18 @@ pub fn items(text: &str) -> Vec<Item> {
     }
     let mut start = 0;
     let item = |text: &str| {
-        let parts: Vec<Vec<u8>> = text.split(['[', ']']).map(hex).collect();
-        let bytes = parts.concat();
+        let mut parts: Vec<Vec<u8>> = text.split(['[', ']']).map(hex).collect();
+        let is_null = parts.len() == 1;
+        parts.resize(3, Vec::new());
+        let lead = parts[0].split_off(2);
         let item = Item {
-            id: bytes[0],
-            type_code: bytes[1],
+            id: parts[0][0],
+            type_code: parts[0][1],
             start,
-            bytes: bytes[2..].to_vec(),
-            value: parts.get(1).cloned(),
+            is_null,
+            parts: [lead, parts[1].clone(), parts[2].clone()],
         };
-        start += item.bytes.len();
+        start += item.bytes().len();
         item
     };
     text.split(',').map(item).collect()
@@ -52,7 +60,7 @@ pub fn assert_cuts(table: &str) {
 
 /// Asserts a block of the items given, and gives its data.
 pub fn assert_items(name: &str, descriptor: &[u8], items: &[Item]) -> Vec<u8> {
-    let data: Vec<u8> = items.iter().flat_map(|item| item.bytes.clone()).collect();
+    let data: Vec<u8> = items.iter().flat_map(Item::bytes).collect();
     assert_list(name, descriptor, &data, items);
     for (number, item) in (0..).zip(items) {
         assert_value(name, descriptor, &data, number, item);
@@ -70,14 +78,18 @@ fn assert_list(name: &str, descriptor: &[u8], data: &[u8], items: &[Item]) {
 }
 
 fn assert_value(name: &str, descriptor: &[u8], data: &[u8], number: u32, item: &Item) {
-    let value = item.value.as_deref().unwrap_or_default();
+    let [lead, value, spare] = item.parts.each_ref().map(|part| part.len() as u32);
     let expected = State {
-        is_null: item.value.is_none(),
+        is_null: item.is_null,
         type_code: item.type_code,
-        value_length: value.len() as u32,
+        lead,
+        value,
+        spare,
     };
     assert_eq!(state(descriptor, data, number), Ok(expected), "{name}");
-    assert_eq!(lend(descriptor, data, number), value, "{name}");
+    let lent = lend(descriptor, data, number);
+    assert_eq!(lent, item.parts[1], "{name}");
+    assert_lent(name, lent, &data[item.start..], lengths(&expected));
     let start = item.start as u32;
     assert_wrong_kinds(name, descriptor, data, number, item.type_code, start);
 }

@@ -94,7 +94,9 @@ fn the_dump_block() {
         let expected = State {
             is_null,
             type_code: 129,
-            value_length: value.len() as u32,
+            lead: 1,
+            value: value.len() as u32,
+            spare: 0,
         };
         assert_eq!(state(&descriptor, &data, item), Ok(expected));
         assert_eq!(lend(&descriptor, &data, item), value);

@@ -65,6 +65,12 @@ fn assert_list(case: &Case, answers: &Answers) {
     assert_eq!(answers.list_after, expected);
 }
 
+const NULL: Parts = Parts {
+    lead: 1,
+    value: 0,
+    spare: 0,
+};
+
 /// The items of an accepted block lie one after the other and fill it.
 fn assert_notes(unfolding: &Unfolding, notes: &[Note], data: &[u8]) {
     let mut position = 0;
@@ -72,9 +78,9 @@ fn assert_notes(unfolding: &Unfolding, notes: &[Note], data: &[u8]) {
     for (field, note) in unfolding.iter().zip(notes) {
         assert_eq!(note.start, position);
         assert_eq!((note.id, note.type_code), (field.id(), field.type_code()));
-        position += note.length;
-        assert!(note.start <= note.value.start && note.value.end <= position);
-        assert!(!note.is_null || (field.is_nullable() && note.length == 1));
+        position += note.parts.total();
+        assert!(note.start <= note.value().start && note.value().end <= position);
+        assert!(!note.is_null || (field.is_nullable() && note.parts == NULL));
     }
     assert_eq!(position, data.len());
 }
@@ -100,7 +106,7 @@ fn answers_agree_with_each_other() {
             }
         }
         match answers.state {
-            Ok(state) => assert_eq!(state.value_length as usize, answers.lent.len()),
+            Ok(state) => assert_eq!(state.value as usize, answers.lent.len()),
             Err(refusal) => {
                 assert!(answers.lent.is_empty());
                 assert_eq!(answers.whole, Err(refusal));

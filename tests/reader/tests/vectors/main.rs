@@ -9,5 +9,6 @@ mod generator;
 mod groups;
 mod limits;
 mod packed;
+mod parts;
 mod rows;
 mod support;

@@ -109,7 +109,9 @@ fn a_bad_digit_is_found_where_it_is_asked_for() {
     let spoiled = State {
         is_null: false,
         type_code: 0x30,
-        value_length: 2,
+        lead: 0,
+        value: 2,
+        spare: 0,
     };
     assert_eq!(state(&descriptor, &data, 1), Ok(spoiled));
     assert_eq!(lend(&descriptor, &data, 1), [0x1A, 0x3C]);

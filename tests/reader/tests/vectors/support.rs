@@ -34,6 +34,8 @@ pub enum Answer {
     Refused(Refusal),
     Null,
     Length(usize),
+    /// The lengths of lead, value and spare.
+    Parts([usize; 3]),
     Value(Vec<u8>),
     Whole(i64),
     /// A packed decimal's value and fraction digits.
@@ -49,6 +51,7 @@ impl Answer {
             "refused" => Answer::Refused(parse_refusal(rest)),
             "null" => Answer::Null,
             "length" => Answer::Length(rest.parse().expect(text)),
+            "parts" => Answer::Parts(parse_parts(rest)),
             "value" => Answer::Value(hex(rest)),
             "whole" => Answer::Whole(rest.parse().expect(text)),
             "packed" => {
@@ -70,6 +73,7 @@ impl Answer {
                 place: refusal.place + 1,
                 ..refusal
             }),
+            Answer::Parts([lead, value, spare]) => Answer::Parts([lead + 1, value, spare]),
             other => other,
         }
     }
@@ -82,6 +86,18 @@ pub fn parse_refusal(text: &str) -> Refusal {
         number: number.parse().expect(text),
         place: place.parse().expect(text),
     }
+}
+
+/// Three lengths, one space apart.
+fn parse_parts(text: &str) -> [usize; 3] {
+    let lengths = text.split(' ').map(|length| length.parse().expect(text));
+    let lengths: Vec<usize> = lengths.collect();
+    lengths.try_into().expect(text)
+}
+
+/// The lengths of an item's lead, value and spare.
+pub fn lengths(state: &State) -> [usize; 3] {
+    [state.lead, state.value, state.spare].map(|length| length as usize)
 }
 
 pub fn refused<T>(number: u32, place: u32) -> Result<T, Refusal> {
@@ -193,6 +209,7 @@ fn assert_refused(name: &str, descriptor: &[u8], data: &[u8], refusal: Refusal) 
     assert_eq!(entries, before, "{name}: the list");
     for item in [0, 1, 70_000, u32::MAX] {
         assert_eq!(state(descriptor, data, item), Err(refusal), "{name}");
+        assert_eq!(state_numbers(descriptor, data, item), [0; 5], "{name}");
         assert_eq!(whole_number(descriptor, data, item), Err(refusal), "{name}");
         assert_eq!(packed(descriptor, data, item), Err(refusal), "{name}");
         assert!(lend(descriptor, data, item).is_empty(), "{name}");
@@ -201,12 +218,14 @@ fn assert_refused(name: &str, descriptor: &[u8], data: &[u8], refusal: Refusal) 
 
 fn assert_item(name: &str, descriptor: &[u8], data: &[u8], answer: &Answer) {
     let state = state(descriptor, data, 0).expect(name);
+    let parts = lengths(&state);
     let lent = lend(descriptor, data, 0);
-    assert_eq!(state.value_length as usize, lent.len(), "{name}");
+    assert_lent(name, lent, data, parts);
     assert_eq!(state.type_code, descriptor[3], "{name}");
     assert_eq!(state.is_null, matches!(answer, Answer::Null), "{name}");
     match answer {
         Answer::Length(length) => assert_eq!(lent.len(), *length, "{name}"),
+        Answer::Parts(expected) => assert_eq!(parts, *expected, "{name}"),
         Answer::Value(value) => assert_eq!(lent[..], value[..], "{name}"),
         Answer::Whole(value) => {
             let whole = whole_number(descriptor, data, 0).expect(name);
@@ -224,7 +243,8 @@ fn assert_item(name: &str, descriptor: &[u8], data: &[u8], answer: &Answer) {
             let answer = packed(descriptor, data, 0);
             assert_eq!(answer, refused(BAD_DIGIT, 0), "{name}");
         }
-        Answer::Null | Answer::Refused(_) => assert!(lent.is_empty(), "{name}"),
+        Answer::Null => assert_eq!(parts, [1, 0, 0], "{name}"),
+        Answer::Refused(_) => unreachable!("{name}"),
     }
     assert_wrong_kinds(name, descriptor, data, 0, descriptor[3], 0);
     let mut entries = [u32::MAX; 5];
@@ -233,7 +253,14 @@ fn assert_item(name: &str, descriptor: &[u8], data: &[u8], answer: &Answer) {
         assert_eq!(list(descriptor, data, &mut entries), Ok(()), "{name}");
         let expected = [1, data.len() as u32, 0, id.into(), u32::MAX];
         assert_eq!(entries, expected, "{name}");
+        assert_eq!(parts.iter().sum::<usize>(), data.len(), "{name}");
     }
+}
+
+/// Asserts that a value is lent from behind the lead of an item at the front of some bytes.
+pub fn assert_lent(name: &str, lent: &[u8], bytes: &[u8], [lead, value, _]: [usize; 3]) {
+    let part = &bytes[lead..lead + value];
+    assert_eq!(lent.as_ptr_range(), part.as_ptr_range(), "{name}");
 }
 
 /// Asserts that the value calls refuse an item at its start, but for the one of its type.
