@@ -10,11 +10,11 @@ use lib.Dec.{ltb}
 use lib.ListN.{length, take, drop, getD, getElem?}
 use lib.Seq.{drop-drop, getD-drop}
 use borrow.Author.Tests.{lt-ltb, le-ltb}
-use Rattle.fdoca.specs.Basics.{if_then_else_, Result, refuse, ok, the}
-use Rattle.fdoca.specs.FieldType.{FieldType, terminatedBytes, terminated, ruleOf, Size}
-use Rattle.fdoca.specs.Item.{Field, Measured, item}
+use Rattle.fdoca.specs.Basics.{if_then_else_, ok, the}
+use Rattle.fdoca.specs.FieldType.{FieldType, terminatedBytes, ruleOf, Size}
+use Rattle.fdoca.specs.Item.{Field}
 use Rattle.fdoca.specs.Account as account
-use Rattle.fdoca.specs.Account.{FixedLength, NonZero, Value, of-size, after-two, after-one, before-zero, Item, plain, null, Parts, Begins, Block, done, next}
+use Rattle.fdoca.specs.Account.{NonZero, Value, of-size, after-two, after-one, before-zero, Item, plain, null, Parts, Block, done, next}
 use Rattle.fdoca.specs.Check.{check}
 use Rattle.fdoca.specs.Unfolding.{unfolded, repeated}
 use Rattle.fdoca.specs.Walk.{Note, itemLength, walk, walkBy}
@@ -24,7 +24,7 @@ use Rattle.fdoca.specs.Cover.{sum, positions, lengths, InItem, Part, lea
 use Rattle.fdoca.proofs.Results.{IfOk, none-owed, holds, bind-all, reject-all, ok-of, itself}
 use Rattle.fdoca.proofs.Tests.{by-order}
 use Rattle.fdoca.proofs.Table.{there, is-there}
-use Rattle.fdoca.proofs.Account.{sizes, fixed-layout, measure-sound}
+use Rattle.fdoca.proofs.Account.{fixed-layout, measure-sound}
 use Rattle.fdoca.proofs.Cover.{Walked, walk-covers, in-an-item, in-one-item, standing, nth-stands}
 use Rattle.fdoca.proofs.Blocks.{walk-sound, first-parts, behind}
 use Rattle.fdoca.proofs.Data.{walked-by}
