@@ -24,8 +24,7 @@ use Rattle.fdoca.proofs.Tests.{either-over, neither-over}
 use Rattle.fdoca.proofs.Table.{not-there, is-there}
 use Rattle.fdoca.proofs.Count.{count-is-length}
 use Rattle.fdoca.proofs.Fields.{item-good}
-use Rattle.fdoca.proofs.TypeRows.{plainCode, type-plain}
-use Rattle.fdoca.proofs.ItemRows.{has-plain, type-is}
+use Rattle.fdoca.proofs.ItemRows.{has-type, type-is}
 use Rattle.fdoca.proofs.FirstReasons.{Told, refused, accepted, Either, Once, once, Precedes, told-as, told-then, told-tested, reject-told, the-told}
 use Rattle.fdoca.proofs.CheckRows.{check-told}
 use Rattle.fdoca.proofs.BlockRows.{starts-unique, item-starts}
@@ -288,9 +287,6 @@ module _ (d s : List ℕ) (k : ℕ) where
     pub typed : typeOf (i .field .code) ≡ some (i .field .type)
     typed = item-good d s k i e .field-good .typed
 
-    pub has-type : HasType (i .field) (plainCode (i .field .type))
-    has-type = rw (type-plain (i .field .code) (i .field .type) typed) at (has-plain (i .field))
-
     abbrev pub fields : List Field
     fields = found .walked .fields
 
@@ -309,8 +305,8 @@ module _ (d s : List ℕ) (k : ℕ) where
     -- a whole number is read of X'23' and X'24' alone
     whole-type : {z : ℤ} (T : FieldType) → i .field .type ≡ T → wholeOf T (valueOf s i) ≡ some z → (HasType (i .field) 0x23 → ⊥) → (HasType (i .field) 0x24 → ⊥) → ⊥
     unfolding wholeOf
-    whole-type integer t h a b = a (rw t at has-type)
-    whole-type reversedInteger t h a b = b (rw t at has-type)
+    whole-type integer t h a b = a (rw t at (has-type (i .field) typed))
+    whole-type reversedInteger t h a b = b (rw t at (has-type (i .field) typed))
     whole-type fixedBytes t h a b = let z : _≡_ {A = ℕ} 0 1 = cc in let w : ⊥ = omega arith in w
     whole-type variableBytes t h a b = let z : _≡_ {A = ℕ} 0 1 = cc in let w : ⊥ = omega arith in w
     whole-type terminatedBytes t h a b = let z : _≡_ {A = ℕ} 0 1 = cc in let w : ⊥ = omega arith in w

@@ -8,16 +8,17 @@
 -- Assumes nothing.
 use mathlib.Core.Path.{_≡_, refl, sym, ap, _∙_}
 use mathlib.Core.Logic.{_↔_}
-use Prim.Native.Nat.{ℕ, _+_, _*_, _/_, _≤_, _<_}
+use Prim.Native.Nat.{ℕ, _+_, _*_, _/_, _^_, _≤_, _<_}
 use native.Mathlib.Omega.{arith}
 use mathlib.Core.Bool.{Bool, true, false, not, _||_}
 use mathlib.Core.List.{List, [], _∷_, _++_, map}
 use mathlib.Core.Option.{Option, none, some}
-use lib.Dec.{ltb}
+use lib.Dec.{T, ltb}
+use lib.Ieee.{Float, binary64, fits, toBits}
 use lib.IntN.{ℤ, pos}
 use lib.ListN.{length, drop, getD, getElem?}
 use borrow.Author.Tests.{le-ltb, lt-ltb}
-use Rattle.fdoca.specs.Basics.{if_then_else_, Result, refuse, ok, _>>=_, _>>_, reject, the}
+use Rattle.fdoca.specs.Basics.{if_then_else_, big, Result, refuse, ok, _>>=_, _>>_, reject, the}
 use Rattle.fdoca.specs.FieldType.{FieldType, terminatedBytes, fixed, typeOf, bytes, digits, sizeOf, ruleOf}
 use Rattle.fdoca.specs.Triplet.{GDA, codeOf, parametersOf}
 use Rattle.fdoca.specs.Item.{Field, withSize}
@@ -26,9 +27,14 @@ use Rattle.fdoca.specs.Check.{maxDescriptor, maxItems, Entry, array, sui
 use Rattle.fdoca.specs.Unfolding.{fieldsAdded, fieldOf, unfolded, repeated}
 use Rattle.fdoca.specs.Unfolding as U
 use Rattle.fdoca.specs.Account.{NonZero, Item, Parts, Block, Packed}
-use Rattle.fdoca.specs.Calls.{maxData, oversize, itemList, small, list, itemAt, valueOf, wholeOf, wholeNumber, packed, checked, listed, entriesAfter, stateOf, lent, wholeAnswer, decimalAnswer}
+use Rattle.fdoca.specs.Calls as calls
+use Rattle.fdoca.specs.Calls.{maxData, oversize, itemList, small, list, itemAt, valueOf, wholeOf, wholeNumber, packed, checked, listed, entriesAfter, stateOf, lent, wholeAnswer, decimalAnswer, Reading, whole, float, readingOf, ordered, signed, readBy, valueAnswer}
 use Rattle.fdoca.specs.Packed.{packedNumber}
-use Rattle.fdoca.specs.Reasons.{byte, OneOf, F, Suits, Allowed, Means, OfItems, withPasses, OfRows, Uses, Unfolds, as-it-is, and-passes, OfDescriptor, OfList, OfState, OfWholeNumber, OfPacked, fileDescriptor, fileData, OfFile, First, None}
+use Rattle.fdoca.specs.Float as float-of
+use Rattle.fdoca.specs.Float.{Number, Equal, Format, longBinary, characteristic, floatOf}
+use Rattle.fdoca.specs.declared.Value.{Value}
+use Rattle.fdoca.specs.declared.Value.the-variants.{Null, Whole, Real}
+use Rattle.fdoca.specs.Reasons.{byte, OneOf, F, Suits, Allowed, Means, OfItems, withPasses, OfRows, Uses, Unfolds, as-it-is, and-passes, OfDescriptor, OfList, OfState, OfWholeNumber, OfPacked, OfValue, fileDescriptor, fileData, OfFile, First, None}
 use Rattle.fdoca.specs.Dump.{refusedLine, textOf, secondSize, dump}
 use Rattle.fdoca.specs.Cover.{sum, positions, lengths, InItem, Part, lead, value, spare, partLength, partBytes, allParts, InPart, endListed, startOf, notesOf, noteOfParts}
 use Rattle.fdoca.proofs.Table.{there, past-end}
@@ -48,8 +54,12 @@ use Rattle.fdoca.proofs.Fields.{good-at, digits-packed, unfolding-good,
 use Rattle.fdoca.proofs.ThreeParts.{parts-account, part-long, null-lengths, ended-parts, all-parts, in-a-part, in-one-part, listed-item}
 use Rattle.fdoca.proofs.Packed.{packed-sound, packed-complete}
 use Rattle.fdoca.proofs.PackedRows.{packed-told}
+use Rattle.fdoca.proofs.Digits.{ordered-length, base-below}
+use Rattle.fdoca.proofs.Floats.{only-canonical}
+use Rattle.fdoca.proofs.FloatForms.{float-is, is-float, bits-back}
+use Rattle.fdoca.proofs.ValueRows.{value-told, reading-fixed, float-length}
 use Rattle.fdoca.proofs.FileRows.{fileNotes, file-text, file-told, file-listed}
-use Rattle.fdoca.proofs.Numbers.{descriptor-number, list-number, state-number, whole-number, packed-number, numberOf, number-0}
+use Rattle.fdoca.proofs.Numbers.{descriptor-number, list-number, state-number, whole-number, packed-number, value-number, numberOf, number-0}
 
 -- DEMAND 1
 
@@ -106,6 +116,12 @@ module _ (d s : List ℕ) (k : ℕ) where
   pub packed-accepts : ((v : Bool × ℤ × ℕ) × (packed d s k ≡ ok v)) ↔ None (OfPacked d s k)
   packed-accepts = accepted-none (packed d s k) (packed-told d s k)
 
+  pub value-refuses : (m p : ℕ) → (calls.value d s k ≡ refuse m p) ↔ First (OfValue d s k) m p
+  value-refuses m p = refused-first (calls.value d s k) (value-told d s k) m p
+
+  pub value-accepts : ((v : Value) × (calls.value d s k ≡ ok v)) ↔ None (OfValue d s k)
+  value-accepts = accepted-none (calls.value d s k) (value-told d s k)
+
 -- A refusal's number is never 0: an answer has the number 0 exactly where the call accepts.
 pub check-number-0 : (d : List ℕ) → (checked (check d) .number ≡ 0) ↔ None (OfDescriptor d)
 check-number-0 d = rw (same (check d)) (number-0 (check-told d) (λ t m p r. descriptor-number r))
@@ -139,6 +155,13 @@ pub packed-number-0 : (d s : List ℕ) (k : ℕ) → (decimalAnswer (packed d s 
 packed-number-0 d s k = rw (same (packed d s k)) (number-0 (packed-told d s k) (λ t m p r. packed-number r))
   where
     same : (x : Result (Bool × ℤ × ℕ)) → decimalAnswer x .number ≡ numberOf x
+    same (refuse m p) = refl
+    same (ok a) = refl
+
+pub value-number-0 : (d s : List ℕ) (k : ℕ) → (valueAnswer (calls.value d s k) .number ≡ 0) ↔ None (OfValue d s k)
+value-number-0 d s k = rw (same (calls.value d s k)) (number-0 (value-told d s k) (λ t m p r. value-number r))
+  where
+    same : (x : Result Value) → valueAnswer x .number ≡ numberOf x
     same (refuse m p) = refl
     same (ok a) = refl
 
@@ -444,10 +467,10 @@ misfit-21 ends p n ref a b code h unsuited = rw (lt-ltb 0 (F a b) h) (go (suitsT
     go true e = absurd (unsuited (type-suits code a b e))
     go false e = refl
 
--- No field of an accepted descriptor has a size that 01's table does not allow for its code, whatever the bias indicator, of which 0 is always allowed.
+-- No field of an accepted descriptor has a bias indicator, a mode or a size that 01's table does not allow for its code.
 pub lengths-allowed : (d : List ℕ) (n : ℕ) → check d ≡ ok n → (fs : List Field) → Unfolds d fs → (before : List Field) (f : Field) (after : List Field)
     → fs ≡ before ++ (f ∷ after)
-    → (typeOf (f .code) ≡ some (f .type)) × ((a b : ℕ) × Allowed (f .code) 0 (f .mode) a b × (f .size ≡ sizeOf (ruleOf (f .type) .sizes) a b))
+    → (typeOf (f .code) ≡ some (f .type)) × ((a b : ℕ) × Allowed (f .code) (f .bias) (f .mode) a b × (f .size ≡ sizeOf (ruleOf (f .type) .sizes) a b))
 lengths-allowed d n e fs u before f after k = let g = good-at before f after (rw k at (unfolding-good d n e fs u)) in (g .typed, field-allowed f g)
 
 -- A list call accepts a block only if its bytes are the items of the unfolding by the standard's account, one after the other and nothing behind; with rows
@@ -543,3 +566,92 @@ module _ (d s : List ℕ) (n : ℕ) (accepts : check d ≡ ok n) (few : length s
           go : (o : Option ℤ) → packedNumber p (x .value) ≡ o → given o ≡ refuse 20 (startOf xs k)
           go none e = refl
           go (some z) e = absurd (none-is z (packed-sound p (x .value) z (value-size w) e))
+
+    -- THE VALUE (document 02, Q-7). Of a field that is not read it is refused with 18, null or not,
+    pub unread-18 : readingOf f ≡ none → calls.value d s k ≡ refuse 18 (startOf xs k)
+    unfolding calls.value
+    unread-18 h = let (i, _) = item-is in rw (i, h)
+
+    -- and of a field that is read a null is Null.
+    module _ (r : Reading) (h : readingOf f ≡ some r) where
+      pub null-is-Null : x .isNull ≡ true → calls.value d s k ≡ ok Null
+      unfolding calls.value
+      null-is-Null z = let (i, _) = item-is in rw (i, h, z)
+
+      value-read : x .isNull ≡ false → calls.value d s k ≡ the (readBy r (x .value)) 23 (startOf xs k)
+      unfolding calls.value
+      value-read z = let (i, u) = item-is in rw (i, h, z, u)
+
+    -- A whole number is that of the value's bytes.
+    pub value-whole : (reversed : Bool) → readingOf f ≡ some (whole reversed) → x .isNull ≡ false → calls.value d s k ≡ ok (Whole (signed (ordered (x .value) reversed)))
+    unfolding readBy
+    value-whole reversed h z = value-read (whole reversed) h z
+
+    module _ (reversed : Bool) (F : Format) (h : readingOf f ≡ some (float reversed F)) (z : x .isNull ≡ false) where
+      -- The bits of the value's bytes.
+      abbrev pub bits : ℕ
+      bits = big (ordered (x .value) reversed)
+
+      -- The float v: its characteristic is in range, 64 bits hold it, and it equals the number of the bits.
+      abbrev pub Exact : Float → Type 0
+      Exact v = (characteristic F bits ≤ F .maximum) × T (fits binary64 v) × Equal v (float-of.numberOf F bits)
+
+      answered : (o : Option Float) → floatOf F bits ≡ o → calls.value d s k ≡ the (calls.real o) 23 (startOf xs k)
+      unfolding readBy
+      answered o e = rw (← e) (value-read (float reversed F) h z)
+
+      -- A float is given exactly where it is such a one,
+      pub exact-float : (v : Float) → (calls.value d s k ≡ ok (Real v)) ↔ Exact v
+      exact-float v = (λ e. float-is F bits v (go (floatOf F bits) refl e), λ y. answered (some v) (is-float F bits v (y .0) (y .1) (y .2)))
+        where
+          go : (o : Option Float) → floatOf F bits ≡ o → calls.value d s k ≡ ok (Real v) → floatOf F bits ≡ some v
+          go none q e = absurd (let y = answered none q in let z : _≡_ {A = ℕ} 0 1 = cc in let w : ⊥ = omega arith in w)
+          go (some w) q e = let y = answered (some w) q in let same : w ≡ v = cc in q ∙ ap some same
+
+      -- and 23 at the item's start exactly where there is none.
+      pub no-exact-23 : (calls.value d s k ≡ refuse 23 (startOf xs k)) ↔ ((v : Float) → Exact v → ⊥)
+      no-exact-23 = (
+        λ e v y. let g = exact-float v .1 y in let z : _≡_ {A = ℕ} 0 1 = cc in omega arith,
+        λ t. go (floatOf F bits) refl t,
+      )
+        where
+          go : (o : Option Float) → floatOf F bits ≡ o → ((v : Float) → Exact v → ⊥) → calls.value d s k ≡ refuse 23 (startOf xs k)
+          go none q t = answered none q
+          go (some v) q t = absurd (t v (float-is F bits v q))
+
+      -- A binary float of 8 bytes has the bits that came.
+      pub bits-as-they-came : F ≡ longBinary → ((i : ℕ) → getD (ordered (x .value) reversed) i 0 < 256) → (v : Float) → calls.value d s k ≡ ok (Real v) → toBits binary64 v ≡ bits
+      unfolding big
+      bits-as-they-came l below v e = bits-back bits v small (rw (← l) given)
+        where
+          given : floatOf F bits ≡ some v
+          given = let (a, b, c) = exact-float v .0 e in is-float F bits v a b c
+
+          small : bits < 2 ^ 64
+          small =
+              let g = item-good d s k (noteOfParts (startOf xs k) f x) (item-is .0) in
+              let n : length (x .value) ≡ 8 = g .filled (reading-fixed f (float reversed F) h) .1 z ∙ float-length f (g .field-good) reversed F h ∙ rw l in
+              let o : length (ordered (x .value) reversed) ≡ 8 = ordered-length (x .value) reversed ∙ n in
+              rw o at (base-below 256 (ordered (x .value) reversed) below)
+
+-- Of the 64-bit floats one alone equals a number.
+pub one-float : (n : Number) (v w : Float) → T (fits binary64 v) → T (fits binary64 w) → Equal v n → Equal w n → v ≡ w
+one-float n v w f g p q = only-canonical n v f p ∙ sym (only-canonical n w g q)
+
+-- Equal bytes that are read alike have equal values, in whatever blocks they stand.
+pub equal-bytes : (d s d′ s′ : List ℕ) (k k′ : ℕ) (i i′ : Note) → itemAt d s k ≡ ok i → itemAt d′ s′ k′ ≡ ok i′ → readingOf (i .field) ≡ readingOf (i′ .field) → i .isNull ≡ false
+    → i′ .isNull ≡ false → valueOf s i ≡ valueOf s′ i′ → (v w : Value) → calls.value d s k ≡ ok v → calls.value d′ s′ k′ ≡ ok w → v ≡ w
+unfolding calls.value
+equal-bytes d s d′ s′ k k′ i i′ e e′ r z z′ b v w h h′ = go (readingOf (i′ .field)) refl (rw (e, r, z, b) at h) (rw (e′, z′) at h′)
+  where
+    the-value : (o : Option Value) (p : ℕ) (v : Value) → the o 23 p ≡ ok v → o ≡ some v
+    the-value none p v h = absurd (let z : _≡_ {A = ℕ} 0 1 = cc in let w : ⊥ = omega arith in w)
+    the-value (some x) p v h = let q : x ≡ v = cc in ap some q
+
+    go : (o : Option Reading) → readingOf (i′ .field) ≡ o → (the o 18 (i .start) >>= (λ r. the (readBy r (valueOf s′ i′)) 23 (i .start))) ≡ ok v
+        → (the o 18 (i′ .start) >>= (λ r. the (readBy r (valueOf s′ i′)) 23 (i′ .start))) ≡ ok w → v ≡ w
+    go none q h h′ = absurd (let z : _≡_ {A = ℕ} 0 1 = cc in let w : ⊥ = omega arith in w)
+    go (some r) q h h′ =
+        let x = the-value (readBy r (valueOf s′ i′)) (i .start) v h in
+        let y = the-value (readBy r (valueOf s′ i′)) (i′ .start) w h′ in
+        cc

@@ -30,13 +30,17 @@ pub record GoodField (f : Field) : Type 0 where
   pub typed : typeOf (f .code) ≡ some (f .type)
   pub allowed : allows (ruleOf (f .type) .sizes) (f .size) ≡ true
   pub mode-allowed : f .mode ≤ C.most (ruleOf (f .type) .hasMode)
+  pub bias-allowed : f .bias ≤ C.most (ruleOf (f .type) .hasBias)
+
+at-most-1 : (n : ℕ) (has : Bool) → n ≤ C.most has → n ≤ 1
+at-most-1 n true h = h
+at-most-1 n false h = omega arith
 
 pub mode-known : {f : Field} → GoodField f → f .mode ≤ 1
-mode-known {f} g = go (ruleOf (f .type) .hasMode) (g .mode-allowed)
-  where
-    go : (has : Bool) → f .mode ≤ C.most has → f .mode ≤ 1
-    go true h = h
-    go false h = omega arith
+mode-known {f} g = at-most-1 (f .mode) (ruleOf (f .type) .hasMode) (g .mode-allowed)
+
+pub bias-known : {f : Field} → GoodField f → f .bias ≤ 1
+bias-known {f} g = at-most-1 (f .bias) (ruleOf (f .type) .hasBias) (g .bias-allowed)
 
 pub data AllGood : List Field → Type 0 where
   nil : AllGood []
@@ -130,7 +134,7 @@ good-found i (c ∷ ds) (one-more g gs) = go (eqb i (c .0)) (good-found i ds gs)
 -- a good field with a replaced length that is good for its type is good
 good-replaced : (f : Field) (a b : ℕ) → GoodField f → C.goodColumn (f .code) a b ≡ true → GoodField (column a b f)
 unfolding C.goodColumn
-good-replaced f a b g h = record { typed = g .typed; allowed = go (replaces a b) h; mode-allowed = g .mode-allowed }
+good-replaced f a b g h = record { typed = g .typed; allowed = go (replaces a b) h; mode-allowed = g .mode-allowed; bias-allowed = g .bias-allowed }
   where
     go : (x : Bool) → (if x then C.suitsType (typeOf (f .code)) a b else true) ≡ true
         → allows (ruleOf (f .type) .sizes) (if x then sizeOf (ruleOf (f .type) .sizes) a b else f .size) ≡ true
@@ -169,7 +173,7 @@ good-SDA t T e h =
     let a : (not (eqb (idOf t) 0) && C.goodType (typeOf (codeOf t)) (parametersOf t)) ≡ true = and-left _ (not (elem 0 (extentsOf t))) h in
     let b : C.goodType (typeOf (codeOf t)) (parametersOf t) ≡ true = and-right (not (eqb (idOf t) 0)) _ a in
     let c = good-parts (ruleOf T) (parametersOf t) (sym (ap (λ o. C.goodType o (parametersOf t)) e) ∙ b) in
-    record { typed = e; allowed = c .size-allowed; mode-allowed = c .mode }
+    record { typed = e; allowed = c .size-allowed; mode-allowed = c .mode; bias-allowed = c .bias }
 
 good-unfold-SDA : (u : Layouts) (p : ℕ) (t : List ℕ) (o : Option FieldType) → typeOf (codeOf t) ≡ o → GoodLayouts u
     → IfOk (λ st. GoodLayouts (unfoldSDA o u t)) (C.checkSDA (entries (closed u)) p t)
@@ -292,11 +296,11 @@ two-numbers (upTo n) (digits p q) h = absurd (true≢false (sym h))
 two-numbers (oneOf ns) (digits p q) h = absurd (true≢false (sym h))
 two-numbers (digitsUpTo n) (bytes G) h = absurd (true≢false (sym h))
 
--- 01's table allows the mode and the size of each field of an accepted descriptor.
-pub field-allowed : (f : Field) → GoodField f → (a b : ℕ) × Allowed (f .code) 0 (f .mode) a b × (f .size ≡ sizeOf (ruleOf (f .type) .sizes) a b)
+-- 01's table allows the parameters of each field of an accepted descriptor.
+pub field-allowed : (f : Field) → GoodField f → (a b : ℕ) × Allowed (f .code) (f .bias) (f .mode) a b × (f .size ≡ sizeOf (ruleOf (f .type) .sizes) a b)
 field-allowed f g =
     let (a, b, e) = two-numbers (ruleOf (f .type) .sizes) (f .size) (g .allowed) in
-    (a, b, rule-allows (f .code) 0 (f .mode) a b (f .type) (g .typed) (omega arith) (g .mode-allowed) (rw e at (g .allowed)), e)
+    (a, b, rule-allows (f .code) (f .bias) (f .mode) a b (f .type) (g .typed) (g .bias-allowed) (g .mode-allowed) (rw e at (g .allowed)), e)
 
 -- a value of fixed length has the field length; a null has none
 abbrev Filled : Layout → ℕ → Measured → Type 0

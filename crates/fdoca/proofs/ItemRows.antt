@@ -18,7 +18,7 @@ use Rattle.fdoca.specs.Account.{FixedLength, string, binary, binary-reve
 use Rattle.fdoca.specs.Reasons as R
 use Rattle.fdoca.specs.Reasons.{OneOf, here, there, HasType, Behind, no-indicator, high-bit-0, L, of-two, of-one, Sent, NoZero, ShortData, indicator, length-two, length-one, not-yet, BadCount, NoEnd, none-zero, OfItem, short-data, bad-count, no-end}
 use Rattle.fdoca.proofs.Table.{looked-up}
-use Rattle.fdoca.proofs.TypeRows.{elem-in, plain-low, plain-high}
+use Rattle.fdoca.proofs.TypeRows.{elem-in, plain-low, plain-high, plainCode, type-plain}
 use Rattle.fdoca.proofs.Tests.{by-le, by-eq}
 use Rattle.fdoca.proofs.Account.{big-one, big-two, fixed-layout, space-none, space-limit, space-full, over, over-of}
 use Rattle.fdoca.proofs.ItemTests.{before-zero-within, sent, CutOff, Against, short, short-L, negative, over-F, short-body, no-zero, endless, Earliest, Judged, judged-map, judged-value}
@@ -38,7 +38,10 @@ among P (there h) (p & ps) = among P h ps
 pub has-plain : (f : Field) → HasType f (plain (f .code))
 has-plain f = by-le (HasType f) 128 (f .code) (λ h. there (here (omega arith))) (λ h. here refl)
 
-plain-of : (c n : ℕ) → c < 128 → OneOf n (c ∷ (c + 0x80) ∷ []) → plain n ≡ c
+pub has-type : (f : Field) → typeOf (f .code) ≡ some (f .type) → HasType f (plainCode (f .type))
+has-type f typed = rw (type-plain (f .code) (f .type) typed) at (has-plain f)
+
+pub plain-of : (c n : ℕ) → c < 128 → OneOf n (c ∷ (c + 0x80) ∷ []) → plain n ≡ c
 plain-of c n h (here e) = rw e (sym (plain-low c h))
 plain-of c n h (there (here e)) = rw e (omega (arith, plain-high (c + 0x80) (omega arith)))
 

@@ -32,8 +32,13 @@ pub mod Rows
 pub mod RowReasons
 pub mod Data
 pub mod Packed
+pub mod Digits
+pub mod Floats
+pub mod FloatForms
 pub mod CallRows
+pub mod ReadRows
 pub mod PackedRows
+pub mod ValueRows
 pub mod Stars
 pub mod FileRows
 pub mod ThreeParts

@@ -8,7 +8,7 @@ use mathlib.Core.List.{List}
 use Rattle.fdoca.specs.Basics.{Result, refuse, ok}
 use Rattle.fdoca.specs.Item.{Field}
 use Rattle.fdoca.specs.Calls.{itemAt}
-use Rattle.fdoca.specs.Reasons.{OfItem, short-data, bad-count, no-end, OfItems, item, surplus, OfRows, too-many, OfDescriptor, triplet, endless, nothing-described, OfData, items, rows, OfBlock, descriptor, data-of, OfList, small-list, small-for-rows, OfState, no-such-item, not-in-rows, OfWholeNumber, state, wrong-kind, OfPacked, bad-digit, None}
+use Rattle.fdoca.specs.Reasons.{OfItem, short-data, bad-count, no-end, OfItems, item, surplus, OfRows, too-many, OfDescriptor, triplet, endless, nothing-described, OfData, items, rows, OfBlock, descriptor, data-of, OfList, small-list, small-for-rows, OfState, no-such-item, not-in-rows, OfWholeNumber, state, wrong-kind, OfPacked, bad-digit, OfValue, no-exact-float, None}
 use Rattle.fdoca.proofs.TripletRows.{step-range}
 use Rattle.fdoca.proofs.FirstReasons.{Told, refused, accepted, refused-first}
 use Rattle.fdoca.proofs.CallRows.{state-told}
@@ -56,6 +56,11 @@ pub packed-number : {d s t : List ℕ} {k m p : ℕ} → OfPacked d s k t m p �
 packed-number (OfPacked.state r) = state-number r
 packed-number (OfPacked.wrong-kind u x a) = omega arith
 packed-number (bad-digit v x z b u w) = omega arith
+
+pub value-number : {d s t : List ℕ} {k m p : ℕ} → OfValue d s k t m p → 1 ≤ m
+value-number (OfValue.state r) = state-number r
+value-number (OfValue.wrong-kind u x a) = omega arith
+value-number (no-exact-float u x n b z w) = omega arith
 
 -- the number of a result
 abbrev pub numberOf : {A : Type 0} → Result A → ℕ

@@ -1,23 +1,29 @@
--- What the calls give (document 01, "What the reader carries", "Numbers a caller can meet", "The item list and the dump program"; document 02, Q-1, Q-5
--- and Q-6).
+-- What the calls give (document 01, "What the reader carries", "Numbers a caller can meet", "The item list and the dump program"; document 02, Q-1, Q-5,
+-- Q-6 and Q-7).
 use Prim.Native.Nat.{ℕ, _+_, _*_, _^_}
-use mathlib.Core.Bool.{Bool, false, _&&_, _||_, not}
+use mathlib.Core.Bool.{Bool, true, false, _&&_, _||_, not}
 use mathlib.Core.List.{List, [], _∷_, _++_, map, reverse}
 use mathlib.Core.Option.{Option, none, some}
-use lib.Dec.{ltb}
+use lib.Dec.{ltb, eqb}
+use lib.Ieee.{Float}
 use lib.IntN.{ℤ, pos, _-ℤ_}
 use lib.ListN.{length, take, drop, getElem?}
 use Rattle.fdoca.specs.declared.Checked.{Checked}
 use Rattle.fdoca.specs.declared.Listed.{Listed}
 use Rattle.fdoca.specs.declared.State.{State}
-use Rattle.fdoca.specs.declared.Whole.{Whole}
+use Rattle.fdoca.specs.declared.Whole as w
 use Rattle.fdoca.specs.declared.Decimal.{Decimal}
-use Rattle.fdoca.specs.Basics.{if_then_else_, isSome, big, Result, refuse, ok, _>>=_, _>>_, reject, the}
+use Rattle.fdoca.specs.declared.Value.{Value}
+use Rattle.fdoca.specs.declared.Value.the-variants.{Null, Whole, Real}
+use Rattle.fdoca.specs.declared.Valued.{Valued}
+use Rattle.fdoca.specs.Basics.{if_then_else_, lookup, isSome, big, Result, refuse, ok, _>>=_, _>>_, reject, the}
 use Rattle.fdoca.specs.FieldType.{FieldType, fixedBytes, variableBytes, terminatedBytes, shortBytes, integer, reversedInteger, packedDecimal, hexFloat, reversedFloat, binaryFloat, Size, bytes, digits}
 use Rattle.fdoca.specs.Walk.{Note, walkBy}
 use Rattle.fdoca.specs.Check.{check, maxDescriptor}
 use Rattle.fdoca.specs.Unfolding.{unfolded, repeated}
 use Rattle.fdoca.specs.Packed.{packedNumber}
+use Rattle.fdoca.specs.Item.{Field, fieldLength}
+use Rattle.fdoca.specs.Float.{Format, shortHexadecimal, longHexadecimal, shortBinary, longBinary, floatOf}
 
 abbrev pub maxData : ℕ
 maxData = 32768
@@ -55,6 +61,10 @@ itemAt d s k = do
 -- The bytes of an item's value: the part of the data that holds it.
 abbrev pub valueOf : List ℕ → Note → List ℕ
 valueOf s i = take (i .value) (drop (i .start + i .lead) s)
+
+-- The bytes of a number, most significant first: as they stand, or back to front where they are reversed.
+unfoldable pub ordered : List ℕ → (reversed : Bool) → List ℕ
+ordered bs reversed = if reversed then reverse bs else bs
 
 -- Two's complement at any width, most significant byte first: from half on, a number stands for itself less the number of all.
 unfoldable pub signed : List ℕ → ℤ
@@ -94,6 +104,43 @@ packed d s k = do
   z ← the (if i .isNull then some (pos 0) else packedNumber (p .0) (valueOf s i)) 20 (i .start)
   ok (i .isNull, z, p .1)
 
+-- How the value call (Q-7) reads the bytes of a value, which may be reversed: as a whole number, or as a float of a format.
+pub data Reading : Type 0 where
+  whole : (reversed : Bool) → Reading
+  float : (reversed : Bool) → Format → Reading
+
+-- By a field's type, its length F and its bias indicator. Byte strings and packed decimals are not read, nor are X'40' of 16 bytes and bias indicator 1.
+unfoldable pub readingBy : FieldType → (F bias : ℕ) → Option Reading
+readingBy integer F bias = some (whole false)
+readingBy reversedInteger F bias = some (whole true)
+readingBy hexFloat F bias = lookup F ((4, float false shortHexadecimal) ∷ (8, float false longHexadecimal) ∷ [])
+readingBy reversedFloat F bias = if eqb bias 0 then lookup F ((4, float true shortBinary) ∷ (8, float true longBinary) ∷ []) else none
+readingBy binaryFloat F bias = if eqb bias 0 then lookup F ((4, float false shortBinary) ∷ (8, float false longBinary) ∷ []) else none
+readingBy fixedBytes F bias = none
+readingBy variableBytes F bias = none
+readingBy terminatedBytes F bias = none
+readingBy shortBytes F bias = none
+readingBy packedDecimal F bias = none
+
+abbrev pub readingOf : Field → Option Reading
+readingOf f = readingBy (f .type) (fieldLength f) (f .bias)
+
+abbrev pub real : Option Float → Option Value
+real none = none
+real (some v) = some (Real v)
+
+-- The value of bytes; none where there is no exact float.
+unfoldable pub readBy : Reading → List ℕ → Option Value
+readBy (whole reversed) bs = some (Whole (signed (ordered bs reversed)))
+readBy (float reversed f) bs = real (floatOf f (big (ordered bs reversed)))
+
+-- The value of an item: 18 goes by the field, of a null too; then 23, No exact float, which a null has not.
+unfoldable pub value : List ℕ → List ℕ → (k : ℕ) → Result Value
+value d s k = do
+  i ← itemAt d s k
+  r ← the (readingOf (i .field)) 18 (i .start)
+  the (if i .isNull then some Null else readBy r (valueOf s i)) 23 (i .start)
+
 -- The answers: an accepted call gives number 0 and place 0, a refusal zeros and no null mark.
 abbrev pub checked : Result ℕ → Checked
 checked (refuse n p) = record { number = n; place = p; items = 0 }
@@ -118,10 +165,15 @@ abbrev pub lent : List ℕ → Result Note → List ℕ
 lent s (refuse n p) = []
 lent s (ok i) = valueOf s i
 
-abbrev pub wholeAnswer : Result (Bool × ℤ) → Whole
+abbrev pub wholeAnswer : Result (Bool × ℤ) → w.Whole
 wholeAnswer (refuse n p) = record { number = n; place = p; null = false; value = pos 0 }
 wholeAnswer (ok v) = record { number = 0; place = 0; null = v .0; value = v .1 }
 
 abbrev pub decimalAnswer : Result (Bool × ℤ × ℕ) → Decimal
 decimalAnswer (refuse n p) = record { number = n; place = p; null = false; value = pos 0; fraction = 0 }
 decimalAnswer (ok v) = record { number = 0; place = 0; null = v .0; value = v .1; fraction = v .2 }
+
+-- A refusal of the value call gives the whole number 0.
+abbrev pub valueAnswer : Result Value → Valued
+valueAnswer (refuse n p) = record { number = n; place = p; value = Whole (pos 0) }
+valueAnswer (ok v) = record { number = 0; place = 0; value = v }

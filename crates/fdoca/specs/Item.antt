@@ -7,17 +7,19 @@ use lib.ListN.{length, take}
 use Rattle.fdoca.specs.Basics.{if_then_else_, big}
 use Rattle.fdoca.specs.FieldType.{FieldType, LengthField, signedTwo, unsignedOne, Layout, fixed, counted, terminated, Size, inBytes, ruleOf, nullable}
 
--- A field ("Unfolding and walk"): an SDA's id, its type code with the type that it stands for, and the parameters that hold for it.
+-- A field ("Unfolding and walk"): an SDA's id, its type code with the type that it stands for, and the parameters that hold for it: mode, bias
+-- indicator and size.
 pub record Field : Type 0 where
   pub id : ℕ
   pub code : ℕ
   pub type : FieldType
   pub mode : ℕ
+  pub bias : ℕ
   pub size : Size
 
 -- A field with another size.
 abbrev pub withSize : Size → Field → Field
-withSize z f = record { id = f .id; code = f .code; type = f .type; mode = f .mode; size = z }
+withSize z f = record { id = f .id; code = f .code; type = f .type; mode = f .mode; bias = f .bias; size = z }
 
 -- The field's length in bytes: the F by which its items are measured.
 abbrev pub fieldLength : Field → ℕ

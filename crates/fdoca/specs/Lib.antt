@@ -6,6 +6,7 @@ pub mod Triplet
 pub mod Check
 pub mod Unfolding
 pub mod Packed
+pub mod Float
 pub mod Calls
 pub mod Dump
 pub mod Account

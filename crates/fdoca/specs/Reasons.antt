@@ -1,16 +1,16 @@
--- Document 01's table "Numbers a caller can meet", with 6 as Q-2 leaves it, 20 by Q-1, group triplets and 21 by Q-4, and rows to the end and 22 by Q-5,
--- row by row: for each number its column "When", said of a triplet, a group, an item or a call by itself, with its place and without regard to the other
--- rows; then 01's order.
--- Bytes are read at their places. The unfolding, a field's length in bytes, the split of bytes into halves and the standard's account of an item are
--- taken from their own files; nothing is taken from the check, from measuring, or from the calls.
+-- Document 01's table "Numbers a caller can meet", with 6 as Q-2 leaves it, 20 by Q-1, group triplets and 21 by Q-4, rows to the end and 22 by Q-5, and
+-- 23 by Q-7, row by row: for each number its column "When", said of a triplet, a group, an item or a call by itself, with its place and without regard to
+-- the other rows; then 01's order.
+-- Bytes are read at their places. The unfolding, a field's length in bytes, the split of bytes into halves, the number that bytes are and the standard's
+-- account of an item are taken from their own files; nothing is taken from the check, from measuring, from the calls, or from the floats.
 use mathlib.Core.Path.{_≡_}
 use mathlib.Core.Logic.{_≢_, _⊎_}
-use Prim.Native.Nat.{ℕ, zero, suc, _+_, _*_, _≤_, _<_}
+use Prim.Native.Nat.{ℕ, zero, suc, _+_, _*_, _/_, _%_, _^_, _≤_, _<_}
 use mathlib.Core.Bool.{false}
-use mathlib.Core.List.{List, [], _∷_, _++_}
+use mathlib.Core.List.{List, [], _∷_, _++_, reverse}
 use mathlib.Core.Option.{none, some}
 use lib.ListN.{length, take, drop, getD}
-use Rattle.fdoca.specs.Basics.{repeat}
+use Rattle.fdoca.specs.Basics.{big, repeat}
 use Rattle.fdoca.specs.FieldType.{digits}
 use Rattle.fdoca.specs.Item.{Field, fieldLength}
 use Rattle.fdoca.specs.Account.{Parts, Begins, Block, Unused}
@@ -378,7 +378,7 @@ pub data Unfolds (d : List ℕ) : List Field → Type 0 where
   and-passes : {rows : List Field} (j : ℕ) → repeated d ≡ some rows → Unfolds d (withPasses (unfolded d) rows j)
 
 -- THE CALLS: each reason with its turn in 01's order, its number and its place. The order is 1; triplets left to right, each by rising number, with 8, 9 or
--- 21, 22, 10 taken group by group; 11; 12 (list call only); then items in order, each by its steps; 16; with rows to the end 12 here; 17; 18; 20.
+-- 21, 22, 10 taken group by group; 11; 12 (list call only); then items in order, each by its steps; 16; with rows to the end 12 here; 17; 18; 20 or 23.
 pub data OfDescriptor (d : List ℕ) : (turn : List ℕ) → (number place : ℕ) → Type 0 where
   -- 1, Oversize: the descriptor over its limit
   oversize : 4096 < length d → OfDescriptor d (1 ∷ []) 1 0
@@ -437,6 +437,36 @@ pub data OfPacked (d s : List ℕ) (k : ℕ) : (turn : List ℕ) → (number pla
       → OfPacked d s k (8 ∷ []) 18 q
   bad-digit : {fs : List Field} {q p fraction : ℕ} {f : Field} {rest : List ℕ} {x : Parts} → Unfolds d fs → StartsAt fs s k f q rest → f .size ≡ digits p fraction → Begins f rest x
       → x .isNull ≡ false → BadDigit p (x .value) → OfPacked d s k (9 ∷ []) 20 q
+
+-- Q-7: the fields whose value is read: X'23' and X'24'; X'40' of 4 or 8 bytes; X'47' and X'48' with bias indicator 0.
+pub data Numeric (f : Field) : Type 0 where
+  whole-number : HasType f 0x23 → Numeric f
+  reversed-whole-number : HasType f 0x24 → Numeric f
+  hexadecimal-float : HasType f 0x40 → OneOf (fieldLength f) (4 ∷ 8 ∷ []) → Numeric f
+  reversed-float : HasType f 0x47 → f .bias ≡ 0 → Numeric f
+  float : HasType f 0x48 → f .bias ≡ 0 → Numeric f
+
+-- The bits of a float's value, as one number.
+pub data Bits (f : Field) (v : List ℕ) : (bits : ℕ) → Type 0 where
+  as-sent : HasType f 0x40 ⊎ HasType f 0x48 → Bits f v (big v)
+  byte-reversed : HasType f 0x47 → Bits f v (big (reverse v))
+
+-- A number has more than 53 significant bits: it is no number below 2 to the 53 times a power of two.
+abbrev pub Over53 : ℕ → Type 0
+Over53 t = (q r : ℕ) → t ≡ q * 2 ^ r → 2 ^ 53 ≤ q
+
+-- 23, No exact float: a binary characteristic above 254 in 4 bytes or above 2046 in 8; or an X'40' of 8 bytes whose fraction has over 53 significant bits.
+pub data NoExactFloat (f : Field) (v : List ℕ) : Type 0 where
+  above-254 : {bits : ℕ} → HasType f 0x47 ⊎ HasType f 0x48 → fieldLength f ≡ 4 → Bits f v bits → 254 < bits % 2 ^ 31 / 2 ^ 23 → NoExactFloat f v
+  above-2046 : {bits : ℕ} → HasType f 0x47 ⊎ HasType f 0x48 → fieldLength f ≡ 8 → Bits f v bits → 2046 < bits % 2 ^ 63 / 2 ^ 52 → NoExactFloat f v
+  over-53 : {bits : ℕ} → HasType f 0x40 → fieldLength f ≡ 8 → Bits f v bits → Over53 (bits % 2 ^ 56) → NoExactFloat f v
+
+-- The value of item k. 18, Wrong kind: of a field whose value is not read, null or not. Then 23, of a value alone.
+pub data OfValue (d s : List ℕ) (k : ℕ) : (turn : List ℕ) → (number place : ℕ) → Type 0 where
+  state : {t : List ℕ} {m p : ℕ} → OfState d s k t m p → OfValue d s k t m p
+  wrong-kind : {fs : List Field} {q : ℕ} {f : Field} {rest : List ℕ} → Unfolds d fs → StartsAt fs s k f q rest → (Numeric f → ⊥) → OfValue d s k (8 ∷ []) 18 q
+  no-exact-float : {fs : List Field} {q : ℕ} {f : Field} {rest : List ℕ} {x : Parts} → Unfolds d fs → StartsAt fs s k f q rest → Numeric f → Begins f rest x
+      → x .isNull ≡ false → NoExactFloat f (x .value) → OfValue d s k (9 ∷ []) 23 q
 
 -- The dump program's file: descriptor size and data size, four bytes each, most significant first, descriptor, data. 19, Bad file: it doesn't fit its
 -- sizes; under 8 bytes before a size over its limit, another length after it.

@@ -9,7 +9,7 @@ use lib.Dec.{eqb}
 use lib.ListN.{length, replicate, getD}
 use Rattle.fdoca.specs.Basics.{if_then_else_, lookup, product, repeat}
 use Rattle.fdoca.specs.FieldType.{FieldType, typeOf, ruleOf, sizeReplaced}
-use Rattle.fdoca.specs.Triplet.{Triplet, torn, triplet, triplets, Kind, RLO, GDA, Construct, SDA, ISD, CPT, grouped, constructOf, idOf, codeOf, parametersOf, modeOf, sizeIn, extentsOf, Group, taken, factor, groupsOf}
+use Rattle.fdoca.specs.Triplet.{Triplet, torn, triplet, triplets, Kind, RLO, GDA, Construct, SDA, ISD, CPT, grouped, constructOf, idOf, codeOf, parametersOf, modeOf, biasOf, sizeIn, extentsOf, Group, taken, factor, groupsOf}
 use Rattle.fdoca.specs.Item.{Field, withSize, fieldLength}
 
 -- What an id describes: an SDA's field and its extents, or the list of an RLO or a GDA.
@@ -72,7 +72,8 @@ addFields kind ds l (g ∷ gs) = addFields kind ds (l ++ groupFields kind ds g) 
 
 abbrev pub fieldOf : FieldType → List ℕ → Field
 fieldOf T t =
-    record { id = idOf t; code = codeOf t; type = T; mode = modeOf (parametersOf t); size = sizeIn (ruleOf T) (parametersOf t) }
+    let ps = parametersOf t in
+    record { id = idOf t; code = codeOf t; type = T; mode = modeOf ps; bias = biasOf ps; size = sizeIn (ruleOf T) ps }
 
 unfoldable pub unfoldSDA : Option FieldType → Layouts → List ℕ → Layouts
 unfoldSDA none st t = st  -- *

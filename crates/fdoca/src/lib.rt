@@ -41,3 +41,17 @@ pub struct Decimal {
     pub value: i64,
     pub fraction: u8,
 }
+
+// The value of an item of a numeric type.
+pub enum Value {
+    Null,
+    Whole(i64),
+    Real(f64),
+}
+
+// An item's value; a refusal has the whole number 0.
+pub struct Valued {
+    pub number: u32,
+    pub place: u32,
+    pub value: Value,
+}

@@ -16,7 +16,7 @@ use Rattle.fdoca.proofs.Tests.{and-left, and-right}
 use Rattle.field_types.specs.Rows.{prefixOf, formOf, ruleFor}
 use Rattle.field_types.specs.Parameters.{layoutNumber, sizeNumber}
 use Rattle.field_types.proofs.Rows.{prefix-below-4}
-use Rattle.fields.specs.Plan.{digitsPart, entryOf, Proper}
+use Rattle.fields.specs.Plan.{digitsPart, ownOf, entryOf, Proper}
 use Rattle.fields.specs.Parts.{lengthPart, layoutPart, entryBy}
 
 -- the digits' part of a layout's number
@@ -115,17 +115,17 @@ parts-of (digitsUpTo n) l (digits p q) (_, e) (a, b) =
 
 -- the entry of a field, from its numbers
 pub entry-made : (f : Field) (own layout size : ℕ) → typeOf (f .code) ≡ some (f .type) → InTwo (ruleOf (f .type) .sizes) (f .size)
-    → own ≡ f .id + 256 * (f .code + 256 * f .mode) → layout ≡ layoutNumber (f .code) → size ≡ sizeNumber (f .size) → entryBy own layout size ≡ entryOf f
+    → own ≡ ownOf f → layout ≡ layoutNumber (f .code) → size ≡ sizeNumber (f .size) → entryBy own layout size ≡ entryOf f
 unfolding entryBy entryOf layoutNumber ruleFor
 entry-made f own layout size q two eo el es =
     let k : layout ≡ formOf (ruleOf (f .type) .sizes) (ruleOf (f .type) .layout) = el ∙ ap (λ o. formOf (ruleFor o .sizes) (ruleFor o .layout)) q in
     let p : PartsOf (ruleOf (f .type) .sizes) (ruleOf (f .type) .layout) (f .size) =
     parts-of (ruleOf (f .type) .sizes) (ruleOf (f .type) .layout) (f .size) (small-sizes (f .type)) two in
-    rw (k, es, p .length-is, p .layout-is) (omega arith)
+    rw (k, es, p .length-is, p .layout-is, eo)
 
--- a field is proper whose size is allowed, with the other numbers of a byte each
-pub made-proper : (f : Field) → f .id < 256 → 0 < f .id → f .code < 256 → f .mode < 256 → allows (ruleOf (f .type) .sizes) (f .size) ≡ true → Proper f
-made-proper f i g c m h =
+-- a field is proper whose size is allowed, with other numbers of so many bits
+pub made-proper : (f : Field) → f .id < 256 → 0 < f .id → f .code < 256 → f .mode < 128 → f .bias < 2 → allows (ruleOf (f .type) .sizes) (f .size) ≡ true → Proper f
+made-proper f i g c m x h =
     let b : Bounded (ruleOf (f .type) .sizes) (f .size) = bounded (f .type) (f .size) h in
     record {
       length-fits = b .length-small;
@@ -133,6 +133,7 @@ made-proper f i g c m h =
       id-given = g;
       code-fits = c;
       mode-fits = m;
+      bias-fits = x;
       digits-fit = b .digits-small;
     }
 
@@ -148,4 +149,4 @@ entry-length f h = omega (arith, h .length-fits)
 
 pub entry-code : (f : Field) → Proper f → entryOf f / 16777216 % 256 ≡ f .code
 unfolding entryOf
-entry-code f h = omega (arith, h .length-fits, h .id-fits, h .code-fits, h .mode-fits)
+entry-code f h = omega (arith, h .length-fits, h .id-fits, h .code-fits, h .mode-fits, h .bias-fits)

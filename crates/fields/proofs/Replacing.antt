@@ -15,20 +15,20 @@ use Rattle.fdoca.specs.Unfolding.{column}
 use Rattle.field_types.specs.Rows.{prefixOf, formOf, ruleFor}
 use Rattle.field_types.specs.Parameters.{layoutNumber, inDigits}
 use Rattle.field_types.proofs.Rows.{prefix-below-4}
-use Rattle.fields.specs.Plan.{entryOf, Proper}
+use Rattle.fields.specs.Plan.{ownOf, entryOf, Proper}
 use Rattle.fields.specs.Parts.{entryBy}
 use Rattle.fields.specs.Replaced.{Replaced}
 use Rattle.fields.proofs.Parts.{two-bytes, entry-made, made-proper}
 
--- id, type code and mode in an entry
-own-part : (f : Field) → Proper f → entryOf f / 65536 % 16777216 ≡ f .id + 256 * (f .code + 256 * f .mode)
+-- id, type code, mode and bias indicator in an entry
+own-part : (f : Field) → Proper f → entryOf f / 65536 % 16777216 ≡ ownOf f
 unfolding entryOf
-own-part f h = omega (arith, h .length-fits, h .id-fits, h .code-fits, h .mode-fits)
+own-part f h = omega (arith, h .length-fits, h .id-fits, h .code-fits, h .mode-fits, h .bias-fits)
 
 -- the layout in an entry, and that of a type whose size is not in digits
 layout-part : (f : Field) → Proper f → entryOf f / 1099511627776 % 4 ≡ prefixOf (ruleOf (f .type) .layout)
 unfolding entryOf
-layout-part f h = omega (arith, h .length-fits, h .id-fits, h .code-fits, h .mode-fits, prefix-below-4 (ruleOf (f .type) .layout))
+layout-part f h = omega (arith, h .length-fits, h .id-fits, h .code-fits, h .mode-fits, h .bias-fits, prefix-below-4 (ruleOf (f .type) .layout))
 
 own-layout : (f : Field) → typeOf (f .code) ≡ some (f .type) → (layoutNumber (f .code) ≡ 4 → ⊥) → layoutNumber (f .code) ≡ prefixOf (ruleOf (f .type) .layout)
 unfolding layoutNumber ruleFor formOf
@@ -53,7 +53,7 @@ module _ (entry p q a b : ℕ) (ea : a ≡ p) (eb : b ≡ q) where
         go f h t k =
             let size : Size = sizeOf (ruleOf (f .type) .sizes) a b in
             let (two, number) = two-bytes (ruleOf (f .type) .sizes) a b high low in
-            let o : own ≡ f .id + 256 * (f .code + 256 * f .mode) = eo ∙ rw k (own-part f h) in
+            let o : own ≡ ownOf f = eo ∙ rw k (own-part f h) in
             let c : code ≡ f .code = omega (arith, h .id-fits, h .code-fits) in
             er ∙ entry-made (withSize size f) own layout (a * 256 + b) t two o (el f h t k c) number
             ∙ rw (← ea, ← eb, lt-ltb 0 (a * 256 + b) (omega (arith, above)))
@@ -77,5 +77,5 @@ column-proper f a b h t good = go (replaces a b) good
     given = sizeOf (ruleOf (f .type) .sizes) a b
 
     go : (x : Bool) → (if x then suitsType (typeOf (f .code)) a b else true) ≡ true → Proper (withSize (if x then given else f .size) f)
-    go true k = made-proper (withSize given f) (h .id-fits) (h .id-given) (h .code-fits) (h .mode-fits) (rw t at k)
+    go true k = made-proper (withSize given f) (h .id-fits) (h .id-given) (h .code-fits) (h .mode-fits) (h .bias-fits) (rw t at k)
     go false k = h

@@ -11,6 +11,6 @@ lengthPart layout size = if eqb layout 4 then size / 256 / 2 + 1 else size
 unfoldable pub layoutPart : (layout size : ℕ) → ℕ
 layoutPart layout size = if eqb layout 4 then 4 * (size / 256 % 2 + 2 * (size % 256)) else layout
 
--- The entry, `own` being id, type code and mode as one number.
+-- The entry, `own` being id, type code, mode and bias indicator as one number.
 unfoldable pub entryBy : (own layout size : ℕ) → ℕ
 entryBy own layout size = lengthPart layout size + 65536 * (own + 16777216 * layoutPart layout size)

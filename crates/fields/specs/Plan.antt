@@ -10,10 +10,13 @@ unfoldable pub digitsPart : Size → ℕ
 digitsPart (bytes F) = 0
 digitsPart (digits p fraction) = p % 2 + 2 * fraction
 
--- Field length in bytes (16 bits), then id, type code and mode (8 bits each), the layout's number (2 bits) and the digits' part (6 bits). The
--- highest 16 bits are left to the walk.
+-- Id and type code (8 bits each), mode (7 bits) and bias indicator (1 bit) as one number.
+abbrev pub ownOf : Field → ℕ
+ownOf f = f .id + 256 * (f .code + 256 * (f .mode + 128 * f .bias))
+
+-- Field length in bytes (16 bits), then that number, the layout's number (2 bits) and the digits' part (6 bits). The highest 16 bits are left to the walk.
 unfoldable pub entryOf : Field → ℕ
-entryOf f = fieldLength f + 65536 * (f .id + 256 * (f .code + 256 * (f .mode + 256 * (prefixOf (ruleOf (f .type) .layout) + 4 * digitsPart (f .size)))))
+entryOf f = fieldLength f + 65536 * (ownOf f + 16777216 * (prefixOf (ruleOf (f .type) .layout) + 4 * digitsPart (f .size)))
 
 -- The parts of a field that an accepted descriptor can have.
 pub record Proper (f : Field) : Type 0 where
@@ -21,7 +24,8 @@ pub record Proper (f : Field) : Type 0 where
   pub id-fits : f .id < 256
   pub id-given : 0 < f .id
   pub code-fits : f .code < 256
-  pub mode-fits : f .mode < 256
+  pub mode-fits : f .mode < 128
+  pub bias-fits : f .bias < 2
   pub digits-fit : digitsPart (f .size) < 64
 
 -- The numbers of a plan stand for the fields.

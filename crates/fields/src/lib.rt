@@ -29,7 +29,7 @@ fn layout_part(layout: u8, size: u64) -> u64
     wide64(layout)
 }
 
-// The entry of a field: `own` is its id, type code and mode as one number.
+// The entry of a field: `own` is its id, type code, mode and bias indicator as one number.
 pub fn entry_of(own: u64, layout: u8, size: u64) -> u64
     requires { ⌜ (own < 16777216) × (size < 65536) ⌝ }
     ensures { λ r. ⌜ r ≡ entryBy own layout size ⌝ }

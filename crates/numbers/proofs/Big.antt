@@ -1,12 +1,11 @@
--- The number of a run of digits in any base: one digit more at its end, its bound, and Horner's rule over the first digits.
+-- The number of a run of digits in any base: one digit more at its end, and Horner's rule over the first digits.
 -- Assumes nothing.
 use mathlib.Core.Path.{_≡_, sym, _∙_}
 use Prim.Native.Nat.{ℕ, suc, _+_, _*_, _<_, _≤_, _^_}
-use native.Mathlib.Nat.{pow-zero, pow-suc, pow-succ', mul-one, zero-mul, suc-mul, add-mul, mul-assoc, add-assoc, mul-le-mul-right, pow-le-pow-right}
+use native.Mathlib.Nat.{pow-zero, pow-suc, mul-one, zero-mul, suc-mul, add-mul, mul-assoc, add-assoc, mul-le-mul-right, pow-le-pow-right}
 use native.Mathlib.Numerals.{add-one}
 use native.Mathlib.Omega.{arith}
 use mathlib.Core.List.{List, [], _∷_, _++_}
-use lib.Dec.{lit<}
 use lib.ListN.{length, getD, take, length-append}
 use lib.Seq.{take-suc}
 use Rattle.fdoca.specs.Basics.{inBase}
@@ -24,15 +23,6 @@ module _ (B : ℕ) where
   one-more k n d l h =
       let m : suc n * B ≤ B ^ k * B = mul-le-mul-right B l in
       rw (add-one, pow-suc) (let q : n * B + B ≤ B ^ k * B = rw suc-mul at m in omega arith)
-
-  pub base-below : (ds : List ℕ) → ((i : ℕ) → getD ds i 0 < B) → inBase B ds < B ^ length ds
-  unfolding inBase
-  base-below [] h = rw pow-zero (lit< tt)
-  base-below (d ∷ ds) h =
-      let first : d < B = h 0 in
-      let m : suc d * B ^ length ds ≤ B * B ^ length ds = mul-le-mul-right (B ^ length ds) first in
-      let others : inBase B ds < B ^ length ds = base-below ds (λ i. h (suc i)) in
-      rw pow-succ' (let q : d * B ^ length ds + B ^ length ds ≤ B * B ^ length ds = rw suc-mul at m in omega arith)
 
   -- with one digit more within 64 bits
   pub room : (most k n d : ℕ) → 0 < B → B ^ most ≤ 2 ^ 64 → k < most → n < B ^ k → d < B → n * B + d < 2 ^ 64

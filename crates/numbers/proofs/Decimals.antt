@@ -23,7 +23,8 @@ use Rattle.fdoca.proofs.Table.{end, _&_, found-as}
 use Rattle.fdoca.proofs.Packed.{length-halves, halves-at, below-append, below-at, no-sign, sign-high}
 use Rattle.numbers.specs.declared.Unpacked.{Unpacked}
 use Rattle.numbers.specs.Packed.{unpacked, magnitudeOf, signedBy}
-use Rattle.numbers.proofs.Big.{one-more, room, taken-more, base-below}
+use Rattle.fdoca.proofs.Digits.{base-below}
+use Rattle.numbers.proofs.Big.{one-more, room, taken-more}
 use Rattle.numbers.proofs.Sign.{below, plain}
 
 -- the ways through `half`

@@ -12,7 +12,8 @@ use lib.Seq.{take-all, getD-at}
 use mir.Syntax.{w64}
 use mir.Val.{Fits}
 use Rattle.fdoca.specs.Basics.{big, inBase}
-use Rattle.numbers.specs.Whole.{ordered}
+use Rattle.fdoca.specs.Calls.{ordered}
+use Rattle.fdoca.proofs.Digits.{ordered-length}
 use Rattle.numbers.proofs.Big.{one-more, room, taken-more}
 
 -- the byte that stands j before the end of the reversed bytes
@@ -25,11 +26,6 @@ reverse-at (x ∷ s) (suc j) l =
     let e : suc (length s) - suc (suc j) ≡ length s - suc j = omega arith in
     let h : length s - suc j < length (reverse s) = rw length-reverse (omega arith) in
     rw (reverse-cons, e) (List·getD-append (reverse s) (x ∷ []) 0 (length s - suc j) h ∙ reverse-at s j (omega arith))
-
-pub ordered-length : (s : List ℕ) (reversed : Bool) → length (ordered s reversed) ≡ length s
-unfolding ordered
-ordered-length s true = length-reverse s
-ordered-length s false = refl
 
 -- the ways through `digit`
 module _ (s : List ℕ) (reversed : Bool) (i b : ℕ) where

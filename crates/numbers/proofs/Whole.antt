@@ -14,9 +14,9 @@ use mir.ValLaws.{toZ-ofZ}
 use borrow.Author.Tests.{le-leb, lt-leb}
 use Rattle.fdoca.specs.Basics.{big, inBase}
 use Rattle.fdoca.specs.FieldType.{integer, reversedInteger}
-use Rattle.fdoca.specs.Calls.{signed, wholeOf}
-use Rattle.numbers.specs.Whole.{ordered, twos, wholeUpTo8}
-use Rattle.numbers.proofs.Digits.{ordered-length}
+use Rattle.fdoca.specs.Calls.{ordered, signed, wholeOf}
+use Rattle.numbers.specs.Whole.{twos, wholeUpTo8}
+use Rattle.fdoca.proofs.Digits.{ordered-length}
 use Rattle.numbers.proofs.Sign.{by-half}
 
 pub no-bytes : (s : List ℕ) (reversed : Bool) → length s ≡ 0 → pos 0 ≡ wholeUpTo8 s reversed

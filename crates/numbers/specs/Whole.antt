@@ -1,16 +1,12 @@
 -- Whole numbers of up to eight bytes: document 01, "Field types", X'23' and X'24'.
 use Prim.Native.Nat.{ℕ, _*_}
 use mathlib.Core.Bool.{Bool}
-use mathlib.Core.List.{List, reverse}
+use mathlib.Core.List.{List}
 use lib.Dec.{leb, ltb}
 use lib.IntN.{ℤ, pos, _-ℤ_}
 use lib.ListN.{length}
 use Rattle.fdoca.specs.Basics.{if_then_else_}
-use Rattle.fdoca.specs.Calls.{signed}
-
--- The bytes of a number, most significant first: as they stand (X'23'), or back to front where they are reversed (X'24').
-unfoldable pub ordered : List ℕ → Bool → List ℕ
-ordered s reversed = if reversed then reverse s else s
+use Rattle.fdoca.specs.Calls.{ordered, signed}
 
 -- Two's complement in a width of 2 h numbers: from h on, n stands for itself less 2 h.
 unfoldable pub twos : (h n : ℕ) → ℤ

@@ -7,7 +7,8 @@ ghost use mathlib.Core.Option.{none, some};
 ghost use lib.ListN.{length, getD, take, drop};
 ghost use Rattle.fdoca.specs.Basics.{big, lookup};
 ghost use Rattle.fdoca.specs.Packed.{halfBytes, minus, signs, allBelow, packedNumber};
-ghost use Rattle.numbers.specs.Whole.{ordered, twos, wholeUpTo8};
+ghost use Rattle.fdoca.specs.Calls.{ordered};
+ghost use Rattle.numbers.specs.Whole.{twos, wholeUpTo8};
 ghost use Rattle.numbers.specs.Packed.{unpacked, magnitudeOf, signedBy};
 
 // The number that a byte is, as a place or a count.

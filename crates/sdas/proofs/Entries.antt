@@ -15,11 +15,11 @@ use mir.Syntax.{w32, w64}
 use mir.Val.{Fits}
 use Rattle.fdoca.specs.Basics.{elem, product}
 use Rattle.fdoca.specs.FieldType.{FieldType, typeOf, ruleOf}
-use Rattle.fdoca.specs.Triplet.{idOf, codeOf, parametersOf, modeOf, sizeIn, extentsOf}
+use Rattle.fdoca.specs.Triplet.{idOf, codeOf, parametersOf, modeOf, biasOf, sizeIn, extentsOf}
 use Rattle.fdoca.specs.Check.{goodLengthSDA, goodType, goodSDA}
 use Rattle.fdoca.proofs.Tests.{and-left, and-right}
 use Rattle.fdoca.specs.Unfolding.{fieldOf}
-use Rattle.fdoca.proofs.Fields.{good-SDA}
+use Rattle.fdoca.proofs.Fields.{GoodField, mode-known, bias-known, good-SDA}
 use Rattle.field_types.specs.Rows.{ruleFor}
 use Rattle.field_types.specs.declared.Shape.{Shape}
 use Rattle.field_types.specs.Parameters.{sizeNumber, shapeOf}
@@ -29,7 +29,8 @@ use Rattle.fields.proofs.Parts.{Bounded, bounded, entry-made, made-proper}
 use Rattle.plans.specs.Tied.{lowerOf}
 use Rattle.sdas.specs.Judged.{extentOr1}
 use Rattle.sdas.specs.Kept.{EntryOf, PutSDA}
-use Rattle.sdas.proofs.Sda.{FourLengths, none-left, one-left, two-left, three-left, four-lengths, extents-next, extents-end, left-out, no-zero}
+use Rattle.fdoca.proofs.TripletBytes.{big-at}
+use Rattle.sdas.proofs.Sda.{FourLengths, none-left, one-left, two-left, three-left, four-lengths, extents-next, extents-end, left-out, no-zero, parameters-length}
 
 -- the parts of a good SDA
 module _ (t : List ℕ) (h : goodSDA t ≡ true) where
@@ -93,9 +94,32 @@ module _ (t : List ℕ) (count lower : ℕ) (g : goodSDA t ≡ true) (e : count 
   pub size-fits : Fits w32 (count + 65536 * lower)
   size-fits = let h : lower ≤ 4096 = least in record { fits = omega arith }
 
--- the mode of an SDA is its byte 9
-mode-read : (t : List ℕ) → 12 ≤ length t → modeOf (parametersOf t) ≡ getD t 9 0
-mode-read t long = getD-take 8 (drop 4 t) 5 0 (omega arith) ∙ getD-drop 4 t 5 0
+-- the mode of a good SDA is its byte 9, and its bias indicator the byte 7; both are 0 or 1
+module _ (t : List ℕ) (long : 12 ≤ length t) (good : goodSDA t ≡ true) where
+  parameter : (i : ℕ) → i < 8 → getD (parametersOf t) i 0 ≡ getD t (4 + i) 0
+  parameter i h = getD-take 8 (drop 4 t) i 0 h ∙ getD-drop 4 t i 0
+
+  field-good : (T : FieldType) → typeOf (codeOf t) ≡ some T → GoodField (fieldOf T t)
+  field-good T q = good-SDA t T q good
+
+  mode-read : modeOf (parametersOf t) ≡ getD t 9 0
+  mode-read = parameter 5 (omega arith)
+
+  mode-small : getD t 9 0 ≤ 1
+  mode-small = let (T, q) = good-type t good in rw mode-read at (mode-known (field-good T q))
+
+  two-read : biasOf (parametersOf t) ≡ getD t 6 0 * 256 + getD t 7 0
+  two-read =
+      big-at (parametersOf t) 2 (omega (arith, parameters-length t long)) ∙ rw (parameter 2 (omega arith), parameter 3 (omega arith))
+
+  bias-read : (biasOf (parametersOf t) ≡ getD t 7 0) × (getD t 7 0 ≤ 1)
+  bias-read =
+      let (T, q) = good-type t good in
+      let h : biasOf (parametersOf t) ≤ 1 = bias-known (field-good T q) in
+      (omega (arith, two-read), omega (arith, two-read))
+
+  pub own-small : (m b c i : ℕ) → m ≡ getD t 9 0 → b ≡ getD t 7 0 → c < 256 → i < 256 → i + 256 * (c + 256 * (m + 128 * b)) < 16777216
+  own-small m b c i em eb cf ifs = omega (arith, mode-small, bias-read .1)
 
 -- the size of a good SDA, by its shape
 module _ (t : List ℕ) (x : Shape) (good : goodSDA t ≡ true) (ex : x ≡ shapeOf (codeOf t) (parametersOf t)) where
@@ -110,21 +134,26 @@ module _ (t : List ℕ) (x : Shape) (good : goodSDA t ≡ true) (ex : x ≡ shap
   size-below = let (T, q) = good-type t good in rw (shape-size T q) (size-bounded T q .number-small)
 
   -- the plan's entry, from its parts
-  pub entry-way : (m c i r : ℕ) → 12 ≤ length t → m ≡ getD t 9 0 → m < 256 → c ≡ getD t 3 0 → c < 256 → i ≡ getD t 2 0 → i < 256
-      → r ≡ entryBy (i + 256 * (c + 256 * m)) (x .layout) (x .size) → EntryOf t r
+  pub entry-way : (m b c i r : ℕ) → 12 ≤ length t → m ≡ getD t 9 0 → b ≡ getD t 7 0 → c ≡ getD t 3 0 → c < 256 → i ≡ getD t 2 0 → i < 256
+      → r ≡ entryBy (i + 256 * (c + 256 * (m + 128 * b))) (x .layout) (x .size) → EntryOf t r
   unfolding shapeOf
-  entry-way m c i r long em mf ec cf ei ifs er = record { same = λ T q. same T q; proper = λ T q z. fits T q z }
+  entry-way m b c i r long em eb ec cf ei ifs er = record { same = λ T q. same T q; proper = λ T q z. fits T q z }
     where
       mode : m ≡ modeOf (parametersOf t)
-      mode = em ∙ sym (mode-read t long)
+      mode = em ∙ sym (mode-read t long good)
+
+      bias : b ≡ biasOf (parametersOf t)
+      bias = eb ∙ sym (bias-read t long good .0)
 
       same : (T : FieldType) → typeOf (codeOf t) ≡ some T → r ≡ entryOf (fieldOf T t)
       same T q =
-          er ∙ entry-made (fieldOf T t) (i + 256 * (c + 256 * m)) (x .layout) (x .size) q (size-bounded T q .in-two)
-          (rw (← mode, ← ec, ← ei)) (ap (λ y. y .layout) ex) (shape-size T q)
+          er ∙ entry-made (fieldOf T t) (i + 256 * (c + 256 * (m + 128 * b))) (x .layout) (x .size) q (size-bounded T q .in-two)
+          (rw (← mode, ← bias, ← ec, ← ei)) (ap (λ y. y .layout) ex) (shape-size T q)
 
       fits : (T : FieldType) → typeOf (codeOf t) ≡ some T → (idOf t ≡ 0 → ⊥) → Proper (fieldOf T t)
-      fits T q h = made-proper (fieldOf T t) (omega arith) (omega (arith, h)) (omega arith) (rw (← mode) mf) (good-SDA t T q good .allowed)
+      fits T q h =
+          let g = field-good t long good T q in
+          made-proper (fieldOf T t) (omega arith) (omega (arith, h)) (omega arith) (omega (arith, mode-known g)) (omega (arith, bias-known g)) (g .allowed)
 
 pub put-way : (t s z e : List ℕ) (p i count lower entry : ℕ) → i ≡ getD t 2 0 → i < 256 → lower ≡ lowerOf (extentsOf t) → count ≡ product (extentsOf t)
     → EntryOf t entry → PutSDA t p s z e (set s i p) (set z i (count + 65536 * lower)) (set e i entry)

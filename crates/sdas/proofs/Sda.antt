@@ -112,7 +112,7 @@ no-zero [] = refl
 no-zero (zero ∷ xs) = rw zero-mul
 no-zero (suc x ∷ xs) = let e : eqb 0 (suc x) ≡ false = ne-eqb 0 (suc x) (λ q. omega arith) in rw (e, positive-mul x (product xs)) (no-zero xs)
 
-parameters-length : (t : List ℕ) → 12 ≤ length t → length (parametersOf t) ≡ 8
+pub parameters-length : (t : List ℕ) → 12 ≤ length t → length (parametersOf t) ≡ 8
 parameters-length t h = length-take-le 8 (drop 4 t) (omega (arith, length-drop 4 t))
 
 -- the ways through `sda_shape`

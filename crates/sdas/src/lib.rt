@@ -127,7 +127,8 @@ fn plan_entry(t: &[u8], shape: Shape) -> u64
     requires { ⌜ (goodLengthSDA (now t) ≡ true) × (goodSDA (now t) ≡ true) × (shape ≡ shapeOf (codeOf (now t)) (parametersOf (now t))) ⌝ }
     ensures { λ r. ⌜ EntryOf (now (t .entry)) r ⌝ }
 {
-    let own = wide64(t[2]) + 256 * (wide64(t[3]) + 256 * wide64(t[9]));
+    let parameters = wide64(t[9]) + 128 * wide64(t[7]);
+    let own = wide64(t[2]) + 256 * (wide64(t[3]) + 256 * parameters);
     fields::entry_of(own, shape.layout, shape.size as u64)
 }
 

@@ -167,7 +167,7 @@ module _ {o : ℕ} {fs : List Field} {s : List ℕ} {p : ℕ} {ns : List Note} (
 
 -- the item's answer, from the part of the data that starts with it
 module _ (m : Measured) (e : ℕ) (s : List ℕ) (at : ℕ)
-    (h : m ≡ answer (measureItem (nullable (e / 16777216 % 256)) (layoutOf (e / 1099511627776 % 4)) (e / 4294967296 % 256) (e % 65536) (take (length s - at) (drop at s)))) where
+    (h : m ≡ answer (measureItem (nullable (e / 16777216 % 256)) (layoutOf (e / 1099511627776 % 4)) (e / 4294967296 % 128) (e % 65536) (take (length s - at) (drop at s)))) where
   pub place-measured : m ≡ answer (measureEntry e (drop at s))
   unfolding measureEntry
   place-measured =

@@ -28,25 +28,25 @@ module _ (f : Field) (p : ℕ) (h : Proper f) where
   unfolding entryOf
   code-part = omega (arith, h .length-fits, h .id-fits, h .code-fits)
 
-  pub mode-part : marked / 4294967296 % 256 ≡ f .mode
+  pub mode-part : marked / 4294967296 % 128 ≡ f .mode
   unfolding entryOf
-  mode-part = omega (arith, h .length-fits, h .id-fits, h .code-fits, h .mode-fits)
+  mode-part = omega (arith, h .length-fits, h .id-fits, h .code-fits, h .mode-fits, h .bias-fits)
 
   pub layout-part : marked / 1099511627776 % 4 ≡ prefixOf (ruleOf (f .type) .layout)
   unfolding entryOf
-  layout-part = omega (arith, h .length-fits, h .id-fits, h .code-fits, h .mode-fits, prefix-below-4 (ruleOf (f .type) .layout))
+  layout-part = omega (arith, h .length-fits, h .id-fits, h .code-fits, h .mode-fits, h .bias-fits, prefix-below-4 (ruleOf (f .type) .layout))
 
   pub digits-part : marked / 4398046511104 % 64 ≡ digitsPart (f .size)
   unfolding entryOf
-  digits-part = omega (arith, h .length-fits, h .id-fits, h .code-fits, h .mode-fits, prefix-below-4 (ruleOf (f .type) .layout), h .digits-fit)
+  digits-part = omega (arith, h .length-fits, h .id-fits, h .code-fits, h .mode-fits, h .bias-fits, prefix-below-4 (ruleOf (f .type) .layout), h .digits-fit)
 
   pub entry-part : marked % 281474976710656 ≡ entryOf f
   unfolding entryOf
-  entry-part = omega (arith, h .length-fits, h .id-fits, h .code-fits, h .mode-fits, prefix-below-4 (ruleOf (f .type) .layout), h .digits-fit)
+  entry-part = omega (arith, h .length-fits, h .id-fits, h .code-fits, h .mode-fits, h .bias-fits, prefix-below-4 (ruleOf (f .type) .layout), h .digits-fit)
 
   pub mark-part : marked / 281474976710656 ≡ p
   unfolding entryOf
-  mark-part = omega (arith, h .length-fits, h .id-fits, h .code-fits, h .mode-fits, prefix-below-4 (ruleOf (f .type) .layout), h .digits-fit)
+  mark-part = omega (arith, h .length-fits, h .id-fits, h .code-fits, h .mode-fits, h .bias-fits, prefix-below-4 (ruleOf (f .type) .layout), h .digits-fit)
 
 -- an entry says to measure its field's item
 pub entry-measures : (f : Field) (p : ℕ) (s : List ℕ) → Proper f → measureEntry (entryOf f + 281474976710656 * p) s ≡ measure f s

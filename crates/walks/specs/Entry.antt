@@ -14,7 +14,7 @@ use Rattle.terminated.specs.declared.Measured.{Measured}
 use Rattle.terminated.specs.Answer.{answer}
 
 unfoldable pub measureEntry : ℕ → List ℕ → defined.Measured
-measureEntry e s = measureItem (nullable (e / 16777216 % 256)) (layoutOf (e / 1099511627776 % 4)) (e / 4294967296 % 256) (e % 65536) s
+measureEntry e s = measureItem (nullable (e / 16777216 % 256)) (layoutOf (e / 1099511627776 % 4)) (e / 4294967296 % 128) (e % 65536) s
 
 -- The item is F bytes without a null indicator: not a nullable form, and the layout's number 0.
 unfoldable pub isPlain : ℕ → Bool

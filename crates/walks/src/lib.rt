@@ -39,8 +39,8 @@ pub struct Found {
     pub entry: u64,
 }
 
-// Where the parts of an entry begin, behind the field length: id, type code, mode, the layout's number with the digits' part, and the position that a
-// marked entry holds.
+// Where the parts of an entry begin, behind the field length: id, type code, mode with the bias indicator, the layout's number with the digits' part,
+// and the position that a marked entry holds.
 const ID: u64 = 65536;
 
 const CODE: u64 = 16777216;
@@ -68,7 +68,7 @@ pub fn item_at(entry: u64, data: &[u8], at: usize) -> Measured
 {
     let nullable = 128 <= entry / CODE % 256;
     let layout = (entry / LAYOUT % 4) as u8;
-    let mode = (entry / MODE % 256) as u8;
+    let mode = (entry / MODE % 128) as u8;
     let f = (entry % ID) as usize;
     items::measure(&data[at..], nullable, layout, mode, f)
 }

@@ -3,7 +3,7 @@ use Prim.Native.Nat.{_-_, _<_, _≤_, _^_}
 use lib.ListN.{length, take}
 use borrow.Author.Needs.{needs}
 use Rattle.fdoca.specs.Basics.{big}
-use Rattle.numbers.specs.Whole.{ordered}
+use Rattle.fdoca.specs.Calls.{ordered}
 use Rattle.numbers.proofs.Digits.{more, room-times, room-plus, first-none, first-more, first-all, first-below}
 use Rattle.numbers.proofs.unsigned.Statement.{statement}
 use Rattle.numbers.proofs.unsigned.Tie as tie

@@ -1,5 +1,5 @@
 use Rattle.sdas.proofs.Sda.{at-least-12, has}
-use Rattle.sdas.proofs.Entries.{size-below, entry-way}
+use Rattle.sdas.proofs.Entries.{own-small, size-below, entry-way}
 use borrow.Author.Needs.{needs}
 use Rattle.sdas.proofs.plan_entry.Statement.{statement}
 use Rattle.sdas.proofs.plan_entry.Tie as tie
@@ -16,11 +16,23 @@ shared-slice-read-wide64-2 c = search (needs, has)
 wide64-requires-2 : tie.Need-wide64-requires-2
 wide64-requires-2 c κs = search needs
 
+mul-parameters : tie.Need-mul-parameters
+mul-parameters c = search needs
+
+add-parameters : tie.Need-add-parameters
+add-parameters c = search needs
+
 shared-slice-read-wide64-3 : tie.Need-shared-slice-read-wide64-3
 shared-slice-read-wide64-3 c = search (needs, has)
 
 wide64-requires-3 : tie.Need-wide64-requires-3
 wide64-requires-3 c κs = search needs
+
+shared-slice-read-wide64-4 : tie.Need-shared-slice-read-wide64-4
+shared-slice-read-wide64-4 c = search (needs, has)
+
+wide64-requires-4 : tie.Need-wide64-requires-4
+wide64-requires-4 c κs = search needs
 
 mul-own : tie.Need-mul-own
 mul-own c = search needs
@@ -35,7 +47,7 @@ add-own-2 : tie.Need-add-own-2
 add-own-2 c = search needs
 
 entry-of-requires : tie.Need-entry-of-requires
-entry-of-requires c κs = search (needs, size-below)
+entry-of-requires c κs = search (needs, size-below, own-small, at-least-12)
 
 returns : tie.Need-returns
 returns c = search (entry-way, at-least-12)
@@ -48,8 +60,12 @@ plan-entry-spec =
     wide64-requires
     shared-slice-read-wide64-2
     wide64-requires-2
+    mul-parameters
+    add-parameters
     shared-slice-read-wide64-3
     wide64-requires-3
+    shared-slice-read-wide64-4
+    wide64-requires-4
     mul-own
     add-own
     mul-own-2
