@@ -4,7 +4,7 @@ use mathlib.Core.Path.{_≡_, refl, sym, ap, _∙_}
 use Prim.Native.Nat.{ℕ, _+_, _-_, _/_, _%_, _≤_, _<_}
 use native.Mathlib.Omega.{arith}
 use native.Mathlib.Nat.{add-sub-cancel-left}
-use mathlib.Core.Bool.{Bool, true, false, true≢false}
+use mathlib.Core.Bool.{Bool, true, false}
 use mathlib.Core.List.{List, [], _∷_}
 use mathlib.Core.Option.{none, some}
 use lib.Dec.{eqb}
@@ -16,10 +16,11 @@ use mir.ValLaws.{toZ-ofZ}
 use borrow.Author.Tests.{eqb-true, eqb-false}
 use Rattle.fdoca.specs.declared.Whole.{Whole}
 use Rattle.fdoca.specs.Basics.{if_then_else_, Result, refuse, ok, _>>=_, the}
-use Rattle.fdoca.specs.FieldType.{FieldType, fixedBytes, variableBytes, terminatedBytes, shortBytes, integer, reversedInteger, packedDecimal, hexFloat, reversedFloat, binaryFloat, Size, bytes, digits, inBytes, fixed, oneOf, plain, allows, ruleOf}
+use Rattle.fdoca.specs.FieldType.{FieldType, fixedBytes, variableBytes, terminatedBytes, shortBytes, integer, reversedInteger, packedDecimal, hexFloat, reversedFloat, binaryFloat, Size, inBytes, fixed, oneOf, plain, allows, ruleOf}
 use Rattle.fdoca.specs.Walk.{Note}
 use Rattle.fdoca.specs.Calls.{itemAt, valueOf, wholeOf, wholeNumber, wholeAnswer}
 use Rattle.fdoca.proofs.TypeRows.{plainCode, same-plain}
+use Rattle.fdoca.proofs.ValueRows.{sized, at-most}
 use Rattle.numbers.specs.Whole.{wholeUpTo8}
 use Rattle.numbers.proofs.Whole.{read-integer, read-reversed}
 use Rattle.walks.specs.declared.Found.{Found}
@@ -32,14 +33,7 @@ wholly z = record { number = 0; place = 0; null = false; value = z }
 
 -- the field lengths of whole numbers
 eight : (z : Size) → allows (oneOf (2 ∷ 4 ∷ 8 ∷ [])) z ≡ true → inBytes z ≤ 8
-eight (digits p q) h = absurd (true≢false (sym h))
-eight (bytes F) h = go (eqb F 2) (eqb F 4) (eqb F 8) refl refl refl h
-  where
-    go : (a b c : Bool) → eqb F 2 ≡ a → eqb F 4 ≡ b → eqb F 8 ≡ c → (if a then true else if b then true else if c then true else false) ≡ true → F ≤ 8
-    go true b c ea eb ec h = let q : F ≡ 2 = eqb-true F 2 ea in omega arith
-    go false true c ea eb ec h = let q : F ≡ 4 = eqb-true F 4 eb in omega arith
-    go false false true ea eb ec h = let q : F ≡ 8 = eqb-true F 8 ec in omega arith
-    go false false false ea eb ec h = absurd (true≢false (sym h))
+eight z h = at-most (inBytes z) 8 (2 ∷ 4 ∷ 8 ∷ []) refl (sized (2 ∷ 4 ∷ 8 ∷ []) z h)
 
 -- the types that have no whole number
 not-whole : (T : FieldType) (bs : List ℕ) → (plainCode T ≡ 0x23 → ⊥) → (plainCode T ≡ 0x24 → ⊥) → wholeOf T bs ≡ none

@@ -1,11 +1,11 @@
-// The calls on a descriptor and its data: list the items, tell an item's state, lend its value, read a whole number or a packed decimal.
+// The calls on a descriptor and its data: list the items, tell an item's state, lend its value, read a whole number, a packed decimal or any numeric value.
 ghost use mathlib.Core.Path.{_≡_};
 ghost use Prim.Native.Nat.{_+_, _≤_};
 ghost use mathlib.Core.Bool.{not, _&&_};
 ghost use lib.ListN.{length};
 ghost use Rattle.fdoca.specs.Basics.{refuse, ok};
 ghost use Rattle.fdoca.specs.Calls as calls;
-ghost use Rattle.fdoca.specs.Calls.{itemAt, stateOf, wholeNumber, wholeAnswer, decimalAnswer};
+ghost use Rattle.fdoca.specs.Calls.{itemAt, stateOf, wholeNumber, wholeAnswer, decimalAnswer, valueAnswer};
 ghost use Rattle.descriptors.specs.Holds.{Ready};
 ghost use Rattle.cuts.specs.Cut.{Fitting};
 ghost use Rattle.blocks.specs.Answers.{itemsInto, ListedAs};
@@ -15,6 +15,8 @@ use descriptors::Examined;
 use fdoca::Decimal;
 use fdoca::Listed;
 use fdoca::State;
+use fdoca::Value;
+use fdoca::Valued;
 use fdoca::Whole;
 
 // The plain type codes of what is read as a number: whole numbers, X'24' byte-reversed, with no code between the two; and packed decimals.
@@ -284,4 +286,28 @@ pub fn packed(descriptor: &[u8], data: &[u8], item: u32) -> Decimal
         digits,
         found.start,
     )
+}
+
+// Where an entry's bias indicator stands.
+const BIAS: u64 = 549755813888;
+
+// Reads an item's value, whatever numeric type it has: null, a whole number or a 64-bit float of exactly equal value.
+pub fn value(descriptor: &[u8], data: &[u8], item: u32) -> Valued
+    ensures { λ r. ⌜ r ≡ valueAnswer (calls.value (now (descriptor .entry)) (now («data» .entry)) item) ⌝ }
+{
+    let found = lookups::find(descriptor, data, item);
+    if found.number != 0 {
+        return values::refused(found.number, found.place);
+    }
+    let code = (found.entry / CODE % 256) as u8;
+    let plain = field_types::plain_code(code);
+    if !values::is_read(plain, found.entry % 65536, found.entry / BIAS % 2) {
+        return values::refused(18, found.start as u32);
+    }
+    if found.null {
+        return values::valued(Value::Null);
+    }
+    let from = found.start + found.lead;
+    let to = from + found.value;
+    values::read(&data[from..to], plain, found.start as u32)
 }

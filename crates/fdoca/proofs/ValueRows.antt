@@ -4,12 +4,12 @@ use mathlib.Core.Path.{_≡_, refl, sym, ap, _∙_}
 use mathlib.Core.Logic.{_⊎_, inl, inr}
 use Prim.Native.Nat.{ℕ, _+_, _/_, _%_, _^_, _≤_, _<_}
 use native.Mathlib.Omega.{arith}
-use mathlib.Core.Bool.{Bool, true, false, true≢false}
+use mathlib.Core.Bool.{Bool, true, false, _&&_, true≢false}
 use mathlib.Core.List.{List, [], _∷_, reverse}
 use mathlib.Core.Option.{Option, none, some}
-use lib.Dec.{eqb}
+use lib.Dec.{leb, eqb}
 use lib.Ieee.{Float}
-use borrow.Author.Tests.{eqb-true}
+use borrow.Author.Tests.{eqb-true, leb-true}
 use Rattle.fdoca.specs.declared.Value.{Value}
 use Rattle.fdoca.specs.declared.Value.the-variants.{Null}
 use Rattle.fdoca.specs.Basics.{if_then_else_, lookup, big}
@@ -19,7 +19,7 @@ use Rattle.fdoca.specs.Float.{Format, shortHexadecimal, longHexadecimal,
 use Rattle.fdoca.specs.Calls.{Reading, whole, float, readingBy, readingOf, ordered, real, readBy, value}
 use Rattle.fdoca.specs.Reasons as R
 use Rattle.fdoca.specs.Reasons.{OneOf, here, there, HasType, Numeric, whole-number, reversed-whole-number, hexadecimal-float, reversed-float, Bits, as-sent, byte-reversed, Over53, NoExactFloat, above-254, above-2046, over-53, OfState, OfValue, state, wrong-kind, no-exact-float}
-use Rattle.fdoca.proofs.Tests.{by-order}
+use Rattle.fdoca.proofs.Tests.{and-left, and-right}
 use Rattle.fdoca.proofs.Fields.{GoodField}
 use Rattle.fdoca.proofs.TypeRows.{elem-in, plainCode}
 use Rattle.fdoca.proofs.ItemRows.{plain-of, has-type, type-is}
@@ -27,24 +27,32 @@ use Rattle.fdoca.proofs.FloatForms.{above-maximum, short-binary, long-b
 use Rattle.fdoca.proofs.FirstReasons.{Told, Either, told-as}
 use Rattle.fdoca.proofs.ReadRows as read
 
+abbrev pub allAtMost : (m : ℕ) → List ℕ → Bool
+allAtMost m [] = true
+allAtMost m (n ∷ ns) = leb n m && allAtMost m ns
+
 abbrev FourOrEight : ℕ → Type 0
 FourOrEight F = OneOf F (4 ∷ 8 ∷ [])
 
--- a binary float is 4 or 8 bytes long
-sized : (z : Size) → allows (oneOf (4 ∷ 8 ∷ [])) z ≡ true → FourOrEight (inBytes z)
-sized (bytes F) h = elem-in F (4 ∷ 8 ∷ []) h
-sized (digits p q) h = absurd (true≢false (sym h))
+-- a size that is one of some field lengths
+pub sized : (ns : List ℕ) (z : Size) → allows (oneOf ns) z ≡ true → OneOf (inBytes z) ns
+sized ns (bytes F) h = elem-in F ns h
+sized ns (digits p q) h = absurd (true≢false (sym h))
+
+pub at-most : (n m : ℕ) (ns : List ℕ) → allAtMost m ns ≡ true → OneOf n ns → n ≤ m
+at-most n m (k ∷ ns) h (here e) = rw e (leb-true k m (and-left (leb k m) (allAtMost m ns) h))
+at-most n m (k ∷ ns) h (there o) = at-most n m ns (and-right (leb k m) (allAtMost m ns) h) o
 
 -- a table with 4 and 8
 module _ {A : Type 0} (a b : A) (F : ℕ) where
-  abbrev Table : Option A
+  abbrev pub Table : Option A
   Table = lookup F ((4, a) ∷ (8, b) ∷ [])
 
   in-table : FourOrEight F → Table ≡ none → ⊥
   in-table (here q) k = let y = rw q at k in let z : _≡_ {A = ℕ} 0 1 = cc in omega arith
   in-table (there (here q)) k = let y = rw q at k in let z : _≡_ {A = ℕ} 0 1 = cc in omega arith
 
-  of-table : (r : A) → Table ≡ some r → ((F ≡ 4) × (a ≡ r)) ⊎ ((F ≡ 8) × (b ≡ r))
+  pub of-table : (r : A) → Table ≡ some r → ((F ≡ 4) × (a ≡ r)) ⊎ ((F ≡ 8) × (b ≡ r))
   of-table r = go (eqb F 4) (eqb F 8) refl refl
     where
       go : (x y : Bool) → eqb F 4 ≡ x → eqb F 8 ≡ y → (if x then some a else if y then some b else none) ≡ some r → ((F ≡ 4) × (a ≡ r)) ⊎ ((F ≡ 8) × (b ≡ r))
@@ -65,10 +73,10 @@ module _ (f : Field) (g : GoodField f) where
   none-wrong n (hexadecimal-float t x) = in-table _ _ (fieldLength f) x (rw (type-is f (g .typed) 0x40 hexFloat (omega arith) refl t) at n)
   none-wrong n (reversed-float t b) =
       let e = type-is f (g .typed) 0x47 reversedFloat (omega arith) refl t in
-      in-table _ _ (fieldLength f) (sized (f .size) (rw e at (g .allowed))) (rw (e, b) at n)
+      in-table _ _ (fieldLength f) (sized (4 ∷ 8 ∷ []) (f .size) (rw e at (g .allowed))) (rw (e, b) at n)
   none-wrong n (R.float t b) =
       let e = type-is f (g .typed) 0x48 binaryFloat (omega arith) refl t in
-      in-table _ _ (fieldLength f) (sized (f .size) (rw e at (g .allowed))) (rw (e, b) at n)
+      in-table _ _ (fieldLength f) (sized (4 ∷ 8 ∷ []) (f .size) (rw e at (g .allowed))) (rw (e, b) at n)
 
   -- a field with a reading is one of these
   data Binary : (reversed : Bool) → Type 0 where
@@ -242,6 +250,21 @@ float-length f g b F e = go (read-is f g (float b F) e)
     go (hexadecimal-8 t l) = l
     go (binary-4 t z l) = l
     go (binary-8 t z l) = l
+
+pub at-most-8 : (f : Field) → GoodField f → (r : Reading) → readingOf f ≡ some r → fieldLength f ≤ 8
+unfolding ruleOf
+at-most-8 f g r e = go (read-is f g r e)
+  where
+    of-whole : (T : FieldType) → f .type ≡ T → ruleOf T .sizes ≡ oneOf (2 ∷ 4 ∷ 8 ∷ []) → fieldLength f ≤ 8
+    of-whole T t z = at-most (fieldLength f) 8 (2 ∷ 4 ∷ 8 ∷ []) refl (sized (2 ∷ 4 ∷ 8 ∷ []) (f .size) (rw (t, z) at (g .allowed)))
+
+    go : {r : Reading} → Read f g r → fieldLength f ≤ 8
+    go (as-whole (inl t)) = of-whole integer (type-is f (g .typed) 0x23 integer (omega arith) refl t) refl
+    go (as-whole (inr t)) = of-whole reversedInteger (type-is f (g .typed) 0x24 reversedInteger (omega arith) refl t) refl
+    go (hexadecimal-4 t l) = omega arith
+    go (hexadecimal-8 t l) = omega arith
+    go (binary-4 t z l) = omega arith
+    go (binary-8 t z l) = omega arith
 
 pub reading-fixed : (f : Field) (r : Reading) → readingOf f ≡ some r → ruleOf (f .type) .layout ≡ fixed
 reading-fixed f r e = layout-of (f .type) (fieldLength f) (f .bias) r e

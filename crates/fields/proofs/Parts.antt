@@ -142,11 +142,20 @@ pub entry-given : (f : Field) → Proper f → 0 < entryOf f
 unfolding entryOf
 entry-given f h = omega (arith, h .id-given)
 
--- and has its field's length and type code
-pub entry-length : (f : Field) → Proper f → entryOf f % 65536 ≡ fieldLength f
-unfolding entryOf
-entry-length f h = omega (arith, h .length-fits)
+-- and has its field's length, type code, bias indicator and digits
+module _ (f : Field) (h : Proper f) where
+  pub entry-length : entryOf f % 65536 ≡ fieldLength f
+  unfolding entryOf
+  entry-length = omega (arith, h .length-fits)
 
-pub entry-code : (f : Field) → Proper f → entryOf f / 16777216 % 256 ≡ f .code
-unfolding entryOf
-entry-code f h = omega (arith, h .length-fits, h .id-fits, h .code-fits, h .mode-fits, h .bias-fits)
+  pub entry-code : entryOf f / 16777216 % 256 ≡ f .code
+  unfolding entryOf
+  entry-code = omega (arith, h .length-fits, h .id-fits, h .code-fits)
+
+  pub entry-bias : entryOf f / 549755813888 % 2 ≡ f .bias
+  unfolding entryOf
+  entry-bias = omega (arith, h .length-fits, h .id-fits, h .code-fits, h .mode-fits, h .bias-fits)
+
+  pub entry-digits : entryOf f / 4398046511104 % 64 ≡ digitsPart (f .size)
+  unfolding entryOf
+  entry-digits = omega (arith, h .length-fits, h .id-fits, h .code-fits, h .mode-fits, h .bias-fits, prefix-below-4 (ruleOf (f .type) .layout), h .digits-fit)

@@ -1,5 +1,6 @@
 -- A plan: the unfolding of an accepted descriptor with a number for each field, which holds all that walking and telling an item need.
 use Prim.Native.Nat.{ℕ, _+_, _*_, _%_, _<_}
+use mathlib.Core.Path.{_≡_}
 use mathlib.Core.List.{List, [], _∷_}
 use Rattle.fdoca.specs.FieldType.{Size, bytes, digits, ruleOf}
 use Rattle.fdoca.specs.Item.{Field, fieldLength}
@@ -27,6 +28,11 @@ pub record Proper (f : Field) : Type 0 where
   pub mode-fits : f .mode < 128
   pub bias-fits : f .bias < 2
   pub digits-fit : digitsPart (f .size) < 64
+
+-- The number e is the entry of such a field.
+pub record EntryIs (f : Field) (e : ℕ) : Type 0 where
+  pub entry : e ≡ entryOf f
+  pub proper : Proper f
 
 -- The numbers of a plan stand for the fields.
 pub data Planned : List ℕ → List Field → Type 0 where

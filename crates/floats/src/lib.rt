@@ -44,12 +44,18 @@ fn shifted_left(significand: u64, power: u64) -> Shifted
     let mut p = power;
     while q < LEADING {
         if p == 0 {
-            return Shifted { significand: q, power: p };
+            return Shifted {
+                significand: q,
+                power: p,
+            };
         }
         q = q * 2;
         p -= 1;
     }
-    Shifted { significand: q, power: p }
+    Shifted {
+        significand: q,
+        power: p,
+    }
 }
 
 // The same number with at most 53 bits, or else odd.
@@ -61,12 +67,18 @@ fn shifted_right(significand: u64, power: u64) -> Shifted
     let mut p = power;
     while TOO_LONG <= q {
         if q % 2 == 1 {
-            return Shifted { significand: q, power: p };
+            return Shifted {
+                significand: q,
+                power: p,
+            };
         }
         q = q / 2;
         p += 1;
     }
-    Shifted { significand: q, power: p }
+    Shifted {
+        significand: q,
+        power: p,
+    }
 }
 
 // The float that is the significand times 2 to the power, in units of the least one, 2 to the -1074.
@@ -87,13 +99,19 @@ fn scaled(negative: bool, significand: u64, power: u64) -> f64
 fn given(value: f64) -> Real
     ensures { λ r. ⌜ r ≡ real (some value) ⌝ }
 {
-    Real { given: true, value: value }
+    Real {
+        given: true,
+        value: value,
+    }
 }
 
 fn no_float() -> Real
     ensures { λ r. ⌜ r ≡ real none ⌝ }
 {
-    Real { given: false, value: 0.0 }
+    Real {
+        given: false,
+        value: 0.0,
+    }
 }
 
 // The float of a binary number, which has a 1 before its fraction where the characteristic is not 0. `hidden` is the weight of that 1, and `power` that

@@ -17,7 +17,7 @@ use Rattle.walks.specs.declared.Found.{Found}
 use Rattle.walks.specs.declared.Passed.{Passed}
 use Rattle.walks.specs.Marks.{markOf}
 use Rattle.walks.specs.Finding.{foundOf, MarkIn, IsMark, FoundBy}
-use Rattle.walks.proofs.Callers.{Sound, item-proper, sound-item, found-inside, found-state, found-digits}
+use Rattle.walks.proofs.Callers.{Sound, item-proper, sound-item, found-inside, found-state, found-entry}
 use Rattle.fdoca.proofs.Results.{IfOk}
 use Rattle.cuts.specs.Cut.{CutAs}
 use Rattle.cuts.proofs.Callers.{Items, cut-refused, cut-good}
@@ -29,7 +29,7 @@ unfolding foundOf
 nothing-found x s n p r e q =
     let a : r .start + r .lead + r .value + r .spare ≤ length s = rw q (omega arith) in
     let b : r .start + r .lead + r .value + r .spare ≤ 32768 = rw q (omega arith) in
-    rw e (record { found = q; inside = a; small = b; state = rw q; digits = λ m z. absurd (let z : _≡_ {A = ℕ} 0 1 = cc in let w : ⊥ = omega arith in w) })
+    rw e (record { found = q; inside = a; small = b; state = rw q; entry-of = λ m z. absurd (let z : _≡_ {A = ℕ} 0 1 = cc in let w : ⊥ = omega arith in w) })
 
 -- an item's mark in a marked plan
 record Nth (ns : List Note) (k : ℕ) : Type 0 where
@@ -86,5 +86,5 @@ module _ (d x s z e : List ℕ) (y : Examined) (rd : Ready d s z e (y .id) (y .i
             inside = found-inside x (itemIn d x k) sound r f;
             small = omega (arith, found-inside x (itemIn d x k) sound r f);
             state = found-state x (itemIn d x k) sound r f;
-            digits = found-digits x (itemIn d x k) sound r f;
+            entry-of = found-entry x (itemIn d x k) sound r f;
           }

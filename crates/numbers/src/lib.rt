@@ -54,7 +54,7 @@ fn digit(s: &[u8], reversed: bool, i: usize) -> u64
 }
 
 // The unsigned number of the bytes, by Horner's rule.
-fn unsigned(s: &[u8], reversed: bool) -> u64
+pub fn unsigned(s: &[u8], reversed: bool) -> u64
     requires { ⌜ length (now s) ≤ 8 ⌝ }
     ensures { λ r. ⌜ (r ≡ big (ordered (now (s .entry)) reversed)) × (r < 256 ^ length (now (s .entry))) ⌝ }
 {

@@ -4,7 +4,8 @@ use Prim.Native.Nat.{ℕ, _+_, _≤_}
 use mathlib.Core.Path.{_≡_, _∙_, refl, ap}
 use mathlib.Core.Bool.{Bool, true, false}
 use mathlib.Core.List.{List}
-use lib.IntN.{ℤ}
+use lib.IntN.{ℤ, pos}
+use lib.Ieee.{Float, fin, binary64, odd, ofFields, ofBits}
 use lib.ListN.{length}
 use mir.Syntax.{w64}
 use mir.Val.{SFits, boolByte, ofZ, toZ}
@@ -14,13 +15,15 @@ use Rattle.fdoca.specs.declared.Listed.{Listed}
 use Rattle.fdoca.specs.declared.State.{State}
 use Rattle.fdoca.specs.declared.Whole.{Whole}
 use Rattle.fdoca.specs.declared.Decimal.{Decimal}
+use Rattle.fdoca.specs.declared.Value.{Value}
+use Rattle.fdoca.specs.declared.Valued.{Valued}
 use Rattle.fdoca.specs.Basics.{Result}
 use Rattle.fdoca.specs.Walk.{Note}
-use Rattle.fdoca.specs.Calls.{checked, stateOf, wholeAnswer, decimalAnswer}
+use Rattle.fdoca.specs.Calls.{checked, stateOf, wholeAnswer, decimalAnswer, valueAnswer}
 use Rattle.blocks.specs.declared.Lent.{Lent}
 use Rattle.blocks.specs.Answers.{ListedAs}
 use Rattle.blocks.specs.Lending.{lentAt}
-use Rattle.panel.specs.Given.{CheckGiven, ListGiven, mark, StateGiven, LentGiven, WholeGiven, PackedGiven}
+use Rattle.panel.specs.Given.{CheckGiven, ListGiven, mark, StateGiven, LentGiven, WholeGiven, PackedGiven, kindOf, wholeIn, realIn, ValueGiven}
 
 pub check-given : {x : Result ℕ} {r : Checked} → r ≡ checked x → CheckGiven x (r .number) (r .place) (r .items)
 check-given e =
@@ -83,4 +86,20 @@ packed-given {r = r} e fits =
       marked = as-number (r .null) ∙ ap (λ (a : Decimal). mark (a .null)) e;
       read = toZ-ofZ fits ∙ ap (λ (a : Decimal). a .value) e;
       behind-the-point = ap (λ (a : Decimal). a .fraction) e;
+    }
+
+-- the literal 0.0
+pub zero-is : ofBits binary64 0 ≡ fin false 0 (pos 0)
+unfolding ofBits ofFields odd
+zero-is = refl
+
+pub value-given : {x : Result Value} {r : Valued} {kind : ℕ} {whole : ℤ} {real : Float} → r ≡ valueAnswer x → kind ≡ kindOf (r .value) → whole ≡ wholeIn (r .value)
+    → real ≡ realIn (r .value) → ValueGiven x (r .number) (r .place) kind whole real
+value-given e k w v =
+    record {
+      returned = ap (λ (a : Valued). a .number) e;
+      placed = ap (λ (a : Valued). a .place) e;
+      of-kind = k ∙ ap (λ (a : Valued). kindOf (a .value)) e;
+      of-whole = w ∙ ap (λ (a : Valued). wholeIn (a .value)) e;
+      of-real = v ∙ ap (λ (a : Valued). realIn (a .value)) e;
     }

@@ -1,14 +1,17 @@
 -- What a C caller is given: the number returned, and what is written through each lent number and into the list, also on a refusal. All of
 -- it is the answer to what the call's definition gives.
 use Prim.Native.Nat.{ℕ, _+_, _≤_}
-use mathlib.Core.Bool.{Bool}
+use mathlib.Core.Bool.{Bool, false}
 use mathlib.Core.Path.{_≡_}
 use mathlib.Core.List.{List}
-use lib.IntN.{ℤ}
+use lib.IntN.{ℤ, pos}
+use lib.Ieee.{Float, fin}
 use lib.ListN.{length}
+use Rattle.fdoca.specs.declared.Value.{Value}
+use Rattle.fdoca.specs.declared.Value.the-variants.{Null, Whole, Real}
 use Rattle.fdoca.specs.Basics.{if_then_else_, Result}
 use Rattle.fdoca.specs.Walk.{Note}
-use Rattle.fdoca.specs.Calls.{checked, listed, entriesAfter, stateOf, wholeAnswer, decimalAnswer}
+use Rattle.fdoca.specs.Calls.{checked, listed, entriesAfter, stateOf, wholeAnswer, decimalAnswer, valueAnswer}
 use Rattle.blocks.specs.Lending.{lentAt}
 
 -- The check, which gives x.
@@ -59,3 +62,27 @@ pub record PackedGiven (x : Result (Bool × ℤ × ℕ)) (number place null : �
   pub marked : null ≡ mark (decimalAnswer x .null)
   pub read : value ≡ decimalAnswer x .value
   pub behind-the-point : fraction ≡ decimalAnswer x .fraction
+
+-- The kind of a value: 0 null, 1 a whole number, 2 a 64-bit float; and its whole number and its float, of which what a kind has not is 0.
+abbrev pub kindOf : Value → ℕ
+kindOf Null = 0
+kindOf (Whole z) = 1
+kindOf (Real v) = 2
+
+abbrev pub wholeIn : Value → ℤ
+wholeIn Null = pos 0
+wholeIn (Whole z) = z
+wholeIn (Real v) = pos 0
+
+abbrev pub realIn : Value → Float
+realIn Null = fin false 0 (pos 0)
+realIn (Whole z) = fin false 0 (pos 0)
+realIn (Real v) = v
+
+-- The value call, which gives x.
+pub record ValueGiven (x : Result Value) (number place kind : ℕ) (whole : ℤ) (real : Float) : Type 0 where
+  pub returned : number ≡ valueAnswer x .number
+  pub placed : place ≡ valueAnswer x .place
+  pub of-kind : kind ≡ kindOf (valueAnswer x .value)
+  pub of-whole : whole ≡ wholeIn (valueAnswer x .value)
+  pub of-real : real ≡ realIn (valueAnswer x .value)

@@ -1,8 +1,10 @@
 // The calls that a program in C makes. A slice is passed as a pointer and a count of elements. The number is returned, and every other
 // result is written where the caller lends room for it, also on a refusal.
+ghost use mathlib.Core.Path.{_≡_};
 ghost use Rattle.fdoca.specs.Check.{check};
 ghost use Rattle.fdoca.specs.Calls as calls;
-ghost use Rattle.panel.specs.Given.{CheckGiven, ListGiven, StateGiven, LentGiven, WholeGiven, PackedGiven};
+ghost use Rattle.panel.specs.Given.{CheckGiven, ListGiven, StateGiven, LentGiven, WholeGiven, PackedGiven, kindOf, wholeIn, realIn, ValueGiven};
+use fdoca::Value;
 
 // Checks a descriptor: how many items it describes.
 #[no_mangle]
@@ -114,4 +116,59 @@ pub extern "C" fn fdoca_packed(
     *value = whole;
     *fraction_digits = decimal.fraction as u32;
     decimal.number
+}
+
+// The kind of a value: 0 null, 1 a whole number, 2 a 64-bit float.
+fn kind_of(value: Value) -> u32
+    ensures { λ r. ⌜ r ≡ kindOf value ⌝ }
+{
+    match value {
+        Value::Null => 0,
+        Value::Whole(_) => 1,
+        Value::Real(_) => 2,
+    }
+}
+
+// The whole number that a value is, or 0.
+fn whole_in(value: Value) -> i64
+    ensures { λ r. ⌜ r ≡ wholeIn value ⌝ }
+{
+    match value {
+        Value::Null => 0,
+        Value::Whole(whole) => whole,
+        Value::Real(_) => 0,
+    }
+}
+
+// The float that a value is, or 0.
+fn real_in(value: Value) -> f64
+    ensures { λ r. ⌜ r ≡ realIn value ⌝ }
+{
+    match value {
+        Value::Null => 0.0,
+        Value::Whole(_) => 0.0,
+        Value::Real(real) => real,
+    }
+}
+
+// Reads an item's value: its kind, and its whole number or its float.
+#[no_mangle]
+pub extern "C" fn fdoca_value(
+    descriptor: &[u8],
+    data: &[u8],
+    item: u32,
+    place: &mut u32,
+    kind: &mut u32,
+    whole: &mut i64,
+    real: &mut f64,
+) -> u32
+    ensures { λ r. ⌜ ValueGiven (calls.value (now (descriptor .entry)) (now («data» .entry)) item) r (now (place .exit)) (now (kind .exit)) (now (whole .exit)) (now (real .exit)) ⌝ }
+{
+    let valued = blocks::value(descriptor, data, item);
+    let value = valued.value;
+    *place = valued.place;
+    *kind = kind_of(value);
+    *whole = whole_in(value);
+    *real = real_in(value);
+    valued.number
 }

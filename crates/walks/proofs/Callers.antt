@@ -14,12 +14,11 @@ use Rattle.fdoca.specs.Calls.{stateOf}
 use Rattle.fdoca.proofs.Results.{IfOk, none-owed, holds, bind-all, reject-all, itself, ok-of}
 use Rattle.fdoca.specs.Cover.{sum, positions, lengths}
 use Rattle.fdoca.proofs.Cover.{walk-covers}
-use Rattle.fields.specs.Plan.{digitsPart, entryOf, Proper, Planned, empty, entry}
+use Rattle.fields.specs.Plan.{Proper, EntryIs, Planned, empty, entry}
 use Rattle.walks.specs.declared.Found.{Found}
 use Rattle.walks.specs.Marks.{markOf, marksFrom, Noted, nothing, item}
 use Rattle.walks.specs.Finding.{foundOf, stateFound}
 use Rattle.fields.proofs.Parts.{entry-code}
-use Rattle.walks.proofs.Parts.{digits-part}
 
 planned-length : {es : List ℕ} {fs : List Field} → Planned es fs → length es ≡ length fs
 planned-length empty = refl
@@ -102,9 +101,6 @@ module _ (s : List ℕ) (x : Result Note) (w : IfOk (Sound s) x) (r : Found) (h 
   pub found-state : stateFound r ≡ stateOf x
   found-state = rw h (state-of s x w)
 
-  pub found-digits : (n : Note) → x ≡ ok n → r .entry / 4398046511104 % 64 ≡ digitsPart (n .field .size)
+  pub found-entry : (n : Note) → x ≡ ok n → EntryIs (n .field) (r .entry)
   unfolding foundOf
-  found-digits n e =
-      let q : Proper (n .field) = ok-of (rw e at w) .proper in
-      let l : r .entry ≡ entryOf (n .field) = rw (h, e) in
-      omega (arith, digits-part (n .field) 0 q)
+  found-entry n e = record { entry = rw (h, e); proper = ok-of (rw e at w) .proper }

@@ -8,7 +8,7 @@ use Rattle.fdoca.specs.FieldType.{ruleOf}
 use Rattle.fdoca.specs.Item.{Field, fieldLength, measure}
 use Rattle.field_types.specs.Rows.{prefixOf}
 use Rattle.field_types.proofs.Rows.{layout-back, prefix-below-4}
-use Rattle.fields.specs.Plan.{digitsPart, entryOf, Proper}
+use Rattle.fields.specs.Plan.{entryOf, Proper}
 use Rattle.walks.specs.Entry.{measureEntry}
 
 -- the parts of the entry of f with the mark p, which is 0 in a plan that no walk has marked
@@ -35,10 +35,6 @@ module _ (f : Field) (p : ℕ) (h : Proper f) where
   pub layout-part : marked / 1099511627776 % 4 ≡ prefixOf (ruleOf (f .type) .layout)
   unfolding entryOf
   layout-part = omega (arith, h .length-fits, h .id-fits, h .code-fits, h .mode-fits, h .bias-fits, prefix-below-4 (ruleOf (f .type) .layout))
-
-  pub digits-part : marked / 4398046511104 % 64 ≡ digitsPart (f .size)
-  unfolding entryOf
-  digits-part = omega (arith, h .length-fits, h .id-fits, h .code-fits, h .mode-fits, h .bias-fits, prefix-below-4 (ruleOf (f .type) .layout), h .digits-fit)
 
   pub entry-part : marked % 281474976710656 ≡ entryOf f
   unfolding entryOf
