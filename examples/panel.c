@@ -5,11 +5,13 @@
  *
  * A block file holds the descriptor's size and the data's size, four bytes each, most significant byte first, then the
  * descriptor, then the data. Each item is printed as its SDA's id and its value: text in quotes, a whole number, a packed
- * decimal with its point, the bytes of a float in hexadecimal, or null. Behind a text stands how many bytes its field has
- * left for more text, if there are any: a label printer needs that. The column is every item whose SDA has the id ID,
- * 1 to 255, written as 177 or 0xB1; there must be one, and all must have the same count of fraction digits. A refusal
- * is told in words, with its number and place, on standard error. A packed decimal with bad digits is printed as refused,
- * and the rows go on, but no column is summed. Exit status: 0 all accepted; 1 a refusal; 2 anything else that went wrong.
+ * decimal with its point, a float in as few digits as tell it from any other, or null; of a float that no call reads, its
+ * bytes in hexadecimal. Behind a text stands how many bytes its field has left for more text, if there are any: a label
+ * printer needs that. The column is every item whose SDA has the id ID, 1 to 255, written as 177 or 0xB1; there must be one,
+ * and all must be whole numbers or packed decimals with the same count of fraction digits. A refusal is told in words, with
+ * its number and place, on standard error. A packed decimal with bad digits and a float without an equal double are printed
+ * as refused, and the rows go on, but no column is summed. Exit status: 0 all accepted; 1 a refusal; 2 anything else that
+ * went wrong.
  */
 #include <inttypes.h>
 #include <stdbool.h>
@@ -35,11 +37,16 @@ struct decimal {
     uint32_t fraction_digits;
 };
 
-/* What the calls tell of one item: the number if it is one, else where its value lies in the data; and how many bytes follow
- * the value. */
+/* How a value is printed. */
+enum form { DECIMAL, REAL, TEXT, HEXADECIMAL };
+
+/* What the calls tell of one item: the number if they read it, else where its value lies in the data; and how many bytes
+ * follow the value. */
 struct item {
     uint32_t is_null, type_code, spare;
+    enum form form;
     struct decimal number;
+    double real;
     uint32_t offset, length;
 };
 
@@ -126,20 +133,6 @@ static int load(const char *name, struct block *block)
     return status;
 }
 
-static bool is_number(uint32_t type_code)
-{
-    uint32_t type = fdoca_plain_type(type_code);
-
-    return type == FDOCA_TYPE_WHOLE || type == FDOCA_TYPE_WHOLE_REVERSED || type == FDOCA_TYPE_PACKED;
-}
-
-static bool is_float(uint32_t type_code)
-{
-    uint32_t type = fdoca_plain_type(type_code);
-
-    return type == FDOCA_TYPE_HEX_FLOAT || type == FDOCA_TYPE_FLOAT || type == FDOCA_TYPE_FLOAT_REVERSED;
-}
-
 static uint32_t ask_state(const struct block *block, uint32_t k, uint32_t *place, struct item *item)
 {
     uint32_t lead, value;
@@ -148,17 +141,45 @@ static uint32_t ask_state(const struct block *block, uint32_t k, uint32_t *place
                        &item->is_null, &item->type_code, &lead, &value, &item->spare);
 }
 
-/* Asks by the item's type code. An item that is no number is refused. */
-static uint32_t ask_number(const struct block *block, uint32_t k, uint32_t *place, struct item *item)
+static uint32_t ask_packed(const struct block *block, uint32_t k, uint32_t *place, struct item *item)
 {
-    struct decimal *number = &item->number;
+    item->form = DECIMAL;
+    return fdoca_packed(block->descriptor, block->descriptor_size, block->data, block->data_size, k, place,
+                        &item->is_null, &item->number.digits, &item->number.fraction_digits);
+}
 
-    if (fdoca_plain_type(item->type_code) == FDOCA_TYPE_PACKED)
-        return fdoca_packed(block->descriptor, block->descriptor_size, block->data, block->data_size, k, place,
-                            &item->is_null, &number->digits, &number->fraction_digits);
-    number->fraction_digits = 0;
-    return fdoca_whole_number(block->descriptor, block->descriptor_size, block->data, block->data_size, k, place,
-                              &item->is_null, &number->digits);
+static uint32_t ask_part(const struct block *block, uint32_t k, uint32_t *place, enum form form, struct item *item)
+{
+    item->form = form;
+    return fdoca_lend(block->descriptor, block->descriptor_size, block->data, block->data_size, k, place, &item->offset,
+                      &item->length);
+}
+
+/* A whole number or a float; where the call does not read the float, its bytes. */
+static uint32_t ask_value(const struct block *block, uint32_t k, uint32_t *place, struct item *item)
+{
+    uint32_t kind;
+    uint32_t number = fdoca_value(block->descriptor, block->descriptor_size, block->data, block->data_size, k, place,
+                                  &kind, &item->number.digits, &item->real);
+
+    item->form = kind == FDOCA_KIND_REAL ? REAL : DECIMAL;
+    item->number.fraction_digits = 0;
+    return number == FDOCA_WRONG_TYPE ? ask_part(block, k, place, HEXADECIMAL, item) : number;
+}
+
+static uint32_t ask_by_type(const struct block *block, uint32_t k, uint32_t *place, struct item *item)
+{
+    switch (fdoca_plain_type(item->type_code)) {
+    case FDOCA_TYPE_PACKED:
+        return ask_packed(block, k, place, item);
+    case FDOCA_TYPE_FIXED:
+    case FDOCA_TYPE_VARIABLE:
+    case FDOCA_TYPE_TERMINATED:
+    case FDOCA_TYPE_SHORT:
+        return ask_part(block, k, place, TEXT, item);
+    default:
+        return ask_value(block, k, place, item);
+    }
 }
 
 /* Asks for an item's state, then for its number or where its value lies. Each is a walk over the block, which is little for
@@ -169,10 +190,7 @@ static int ask(const struct block *block, uint32_t k, struct item *item)
     uint32_t number = ask_state(block, k, &place, item);
 
     if (number == FDOCA_ACCEPTED)
-        number = is_number(item->type_code)
-                     ? ask_number(block, k, &place, item)
-                     : fdoca_lend(block->descriptor, block->descriptor_size, block->data, block->data_size, k, &place,
-                                  &item->offset, &item->length);
+        number = ask_by_type(block, k, &place, item);
     return number == FDOCA_ACCEPTED ? ACCEPTED : refused("item", number, place, "data");
 }
 
@@ -186,6 +204,19 @@ static void print_decimal(struct decimal number)
     printf("%s%" PRIu64, number.digits < 0 ? "-" : "", size / one);
     if (number.fraction_digits > 0)
         printf(".%0*" PRIu64, (int)number.fraction_digits, size % one);
+}
+
+/* With 17 digits every double reads back as itself, and most do with fewer. */
+static void print_real(double real)
+{
+    char text[32];
+    int digits = 0;
+
+    do {
+        digits++;
+        snprintf(text, sizeof text, "%.*g", digits, real);
+    } while (strtod(text, NULL) != real);
+    printf("%s", text);
 }
 
 /* Printable ASCII as it is, all other bytes, the quote and the backslash as \xNN. */
@@ -224,12 +255,14 @@ static void print_value(const struct block *block, const struct item *item)
 {
     if (item->is_null)
         printf("null");
-    else if (is_number(item->type_code))
+    else if (item->form == DECIMAL)
         print_decimal(item->number);
-    else if (is_float(item->type_code))
-        print_hexadecimal(block->data + item->offset, item->length);
-    else
+    else if (item->form == REAL)
+        print_real(item->real);
+    else if (item->form == TEXT)
         print_string(block, item);
+    else
+        print_hexadecimal(block->data + item->offset, item->length);
 }
 
 static int print_item(const struct block *block, uint32_t k)
@@ -270,6 +303,16 @@ static bool add(int64_t *sum, int64_t value)
     return true;
 }
 
+/* Asks by the item's type code for a number that can be summed without rounding. Any other item is refused. */
+static uint32_t ask_exact(const struct block *block, uint32_t k, uint32_t *place, struct item *item)
+{
+    if (fdoca_plain_type(item->type_code) == FDOCA_TYPE_PACKED)
+        return ask_packed(block, k, place, item);
+    item->number.fraction_digits = 0;
+    return fdoca_whole_number(block->descriptor, block->descriptor_size, block->data, block->data_size, k, place,
+                              &item->is_null, &item->number.digits);
+}
+
 /* The items of a column have one SDA, but a GDA may give them other fraction digits: such a column has no sum. */
 static int add_item(const struct block *block, uint32_t k, struct column *column)
 {
@@ -278,7 +321,7 @@ static int add_item(const struct block *block, uint32_t k, struct column *column
     uint32_t number = ask_state(block, k, &place, &item);
 
     if (number == FDOCA_ACCEPTED)
-        number = ask_number(block, k, &place, &item);
+        number = ask_exact(block, k, &place, &item);
     if (number != FDOCA_ACCEPTED)
         return refused("column", number, place, "data");
     if (column->items > 0 && column->sum.fraction_digits != item.number.fraction_digits)

@@ -1,6 +1,6 @@
 /*
  * Reads FD:OCA data blocks: checks a descriptor, lists the items of a block that it describes, tells an item's state and
- * where its value lies, reads a whole number or a packed decimal.
+ * where its value lies, reads a whole number, a packed decimal or a float.
  *
  * For C99 or later. The library is proved and made by `tools/build panel`, and a program links it by
  *
@@ -8,7 +8,8 @@
  *
  * Every call returns a number: 0 if it accepts what it was given, else the first reason to refuse it (enum fdoca_number).
  * With a refusal goes a place, an offset in the descriptor or in the data, as told there. Every result is written, also on
- * a refusal: then all but number and place are 0. Only a list keeps its old contents on a refusal.
+ * a refusal: then all but number and place are 0, and the kind that fdoca_value gives is that of a whole number. Only a list
+ * keeps its old contents on a refusal.
  *
  * A call takes any bytes, allocates nothing and keeps nothing for the next call. Several threads may make calls at once.
  *
@@ -25,8 +26,14 @@
 #ifndef FDOCA_H
 #define FDOCA_H
 
+#include <float.h>
 #include <stddef.h>
 #include <stdint.h>
+
+/* The library gives a float as IEEE 754's binary64, so a double has to be that. */
+#if FLT_RADIX != 2 || DBL_MANT_DIG != 53 || DBL_MIN_EXP != -1021 || DBL_MAX_EXP != 1024
+#error "fdoca.h needs a double that is IEEE 754's binary64"
+#endif
 
 #ifdef __cplusplus
 extern "C" {
@@ -59,8 +66,8 @@ extern "C" {
  *
  * The reasons are tried in this order: 1; the triplets from left to right, each by rising number from 2 to 10, with 8, 9
  * and 10 taken group by group, 21 right after 8, and 22 right after 9; 11; 12; the items in order, by 13 to 15; 16; 17; 18;
- * 20. With rows to the end 12 comes only after the items, 16 never, and an item past FDOCA_MAX_ITEMS is refused by 10 before
- * it is measured.
+ * 20 or 23. With rows to the end 12 comes only after the items, 16 never, and an item past FDOCA_MAX_ITEMS is refused by 10
+ * before it is measured.
  */
 enum fdoca_number {
     /* Nothing is wrong. Place: 0. */
@@ -122,7 +129,8 @@ enum fdoca_number {
     /* The block has no item of that number. Place: 0. */
     FDOCA_NO_SUCH_ITEM = 17,
 
-    /* The item, null or not, is of no type that the call reads. Place: the item. */
+    /* The item, null or not, is of no type that the call reads, or is a float whose length or bias indicator the call does
+     * not read. Place: the item. */
     FDOCA_WRONG_TYPE = 18,
 
     /* For programs that read a block from a file: the file does not fit the sizes that it starts with. No call gives
@@ -139,7 +147,12 @@ enum fdoca_number {
 
     /* Rows to the end would take no bytes: every item of what is repeated is a fixed string of the field length 0 that is
      * not nullable. Place: the group's triplet. */
-    FDOCA_ZERO_WIDTH_REPEAT = 22
+    FDOCA_ZERO_WIDTH_REPEAT = 22,
+
+    /* A float has no equal double: it is an infinity or a NaN, which a binary float is by its characteristic, 255 of 4 bytes
+     * or 2047 of 8; or it is a hexadecimal one of 8 bytes with more than 53 bits from its first 1 to its last. fdoca_value
+     * alone looks at these, in the one item that it reads. Place: the item. */
+    FDOCA_NO_EXACT_FLOAT = 23
 };
 
 /*
@@ -149,7 +162,8 @@ enum fdoca_number {
  *
  * A float whose SDA gives a field length other than 4, 8 or 16 has the default of its type: 8 bytes if it is hexadecimal,
  * 4 if it is binary. So all eight parameter bytes may be 0. A binary float of 16 bytes is refused, by 6, or by 21 where a GDA
- * gives the length.
+ * gives the length. The SDA of a binary float has a bias indicator too, 0 or 1, in bytes 2 and 3 of its parameters; with 0
+ * the floats are those of IEEE 754. Which floats fdoca_value reads is told there.
  */
 enum fdoca_type {
     FDOCA_TYPE_FIXED = 0x01,          /* 1, 129: a string of bytes, as long as its field */
@@ -162,6 +176,13 @@ enum fdoca_type {
     FDOCA_TYPE_HEX_FLOAT = 0x40,      /* 64, 192: a hexadecimal float of 4, 8 or 16 bytes */
     FDOCA_TYPE_FLOAT_REVERSED = 0x47, /* 71, 199: a binary float of 4 or 8 bytes, least significant first */
     FDOCA_TYPE_FLOAT = 0x48           /* 72, 200: a binary float of 4 or 8 bytes, most significant first */
+};
+
+/* The kinds of value that fdoca_value gives. */
+enum fdoca_kind {
+    FDOCA_KIND_NULL = 0,  /* the item is null */
+    FDOCA_KIND_WHOLE = 1, /* a whole number */
+    FDOCA_KIND_REAL = 2   /* a float */
 };
 
 /*
@@ -244,6 +265,21 @@ uint32_t fdoca_whole_number(const uint8_t *descriptor, size_t descriptor_size, c
 uint32_t fdoca_packed(const uint8_t *descriptor, size_t descriptor_size, const uint8_t *data, size_t data_size,
                       uint32_t item, uint32_t *place, uint32_t *is_null, int64_t *value, uint32_t *fraction_digits);
 
+/*
+ * Reads a number that is whole or a float.
+ *
+ * item: the item's number, from 0.
+ * kind: whether the item is null, a whole number or a float (enum fdoca_kind). A refusal gives the whole number 0.
+ * whole: the value of a whole number, else 0.
+ * real: the value of a float, else +0.0. The double is exactly equal to the item's value, never rounded, and never an
+ * infinity or a NaN: what has no equal double is refused by 23. A zero keeps its sign, so it may be -0.0.
+ * Of the floats the call reads the binary ones with the bias indicator 0 and the hexadecimal ones of 4 or 8 bytes. Those with
+ * the bias indicator 1 or of 16 bytes, strings and packed decimals are refused by 18, null or not.
+ * Refuses by 1 to 11, 13 to 18 and 21 to 23.
+ */
+uint32_t fdoca_value(const uint8_t *descriptor, size_t descriptor_size, const uint8_t *data, size_t data_size,
+                     uint32_t item, uint32_t *place, uint32_t *kind, int64_t *whole, double *real);
+
 /* The start of item k in a list that a call wrote, and the id of the item's SDA. k is below list[0]. */
 static inline uint32_t fdoca_item_start(const uint32_t *list, uint32_t k)
 {
@@ -316,6 +352,8 @@ static inline const char *fdoca_text(uint32_t number)
         return "column does not fit what it refers to";
     case FDOCA_ZERO_WIDTH_REPEAT:
         return "rows to the end take no bytes";
+    case FDOCA_NO_EXACT_FLOAT:
+        return "value has no equal 64-bit float";
     default:
         return "unknown number";
     }
@@ -380,6 +418,16 @@ static inline uint32_t fdoca_packed_null_ok(const uint8_t *descriptor, size_t de
 
     return fdoca_packed(descriptor_size == 0 ? &none : descriptor, descriptor_size, data_size == 0 ? &none : data,
                         data_size, item, place, is_null, value, fraction_digits);
+}
+
+static inline uint32_t fdoca_value_null_ok(const uint8_t *descriptor, size_t descriptor_size, const uint8_t *data,
+                                           size_t data_size, uint32_t item, uint32_t *place, uint32_t *kind,
+                                           int64_t *whole, double *real)
+{
+    const uint8_t none = 0;
+
+    return fdoca_value(descriptor_size == 0 ? &none : descriptor, descriptor_size, data_size == 0 ? &none : data,
+                       data_size, item, place, kind, whole, real);
 }
 
 #ifdef __cplusplus

@@ -292,6 +292,7 @@ static const uint32_t numbers[] = {
     FDOCA_INVALID_DIGIT,
     FDOCA_COLUMN_MISFIT,
     FDOCA_ZERO_WIDTH_REPEAT,
+    FDOCA_NO_EXACT_FLOAT,
 };
 
 /* Each name has its number, and each number words of its own; those past the last share words that no other has. */
@@ -299,7 +300,7 @@ static void test_words(void)
 {
     const uint32_t unknown = COUNT(numbers);
 
-    expect(unknown == 23, "words", "23 numbers");
+    expect(unknown == 24, "words", "24 numbers");
     for (uint32_t n = 0; n < unknown; n++) {
         bool own = fdoca_text(n)[0] != '\0';
 

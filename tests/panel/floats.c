@@ -1,7 +1,7 @@
 /*
  * Tests of floats in C: how long they are by the field length F of their SDA, where a type's default stands for every F but
- * 4, 8 and 16. What the calls refuse alike is in calls.c, rows with floats are in items.c. The last line printed is
- * "N passed, M failed", and the exit status is 0 if none failed.
+ * 4, 8 and 16. What the calls refuse alike is in calls.c, rows with floats are in items.c, the values of floats in values.c.
+ * The last line printed is "N passed, M failed", and the exit status is 0 if none failed.
  */
 #include "support.h"
 
@@ -55,6 +55,14 @@ static uint32_t lead(const struct column *c)
 
 /* ---- every call, on data that fit the length and on others */
 
+/* What the value call gives of a zero, or of a null: one of 16 bytes is refused. */
+static struct value zero_value(const struct column *c, uint32_t is_null)
+{
+    if (c->length == 16)
+        return (struct value)REFUSED(18, 0);
+    return is_null ? (struct value)NO_VALUE : (struct value)REAL(0.0);
+}
+
 static void expect_item(const struct column *c, struct bytes s, uint32_t is_null, uint32_t length, const char *name)
 {
     const uint32_t list[] = {1, (uint32_t)s.size, 0, 0xB1};
@@ -64,6 +72,7 @@ static void expect_item(const struct column *c, struct bytes s, uint32_t is_null
     expect(lend_gives(c->sda, s, 0, 0, 0, lead(c), length), "lend", name);
     expect(whole_gives(c->sda, s, 0, 18, 0, 0, 0), "no whole number", name);
     expect(packed_gives(c->sda, s, 0, 18, 0, 0, 0, 0), "no packed decimal", name);
+    expect(value_gives(c->sda, s, 0, zero_value(c, is_null)), "value", name);
 }
 
 static void test_null(const struct column *c)

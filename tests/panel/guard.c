@@ -21,10 +21,10 @@
 /* How many cases of one kind are told. */
 #define MOST_TOLD 3
 
-enum { LISTS = 5, ITEMS = 4, ITEM_CALLS = 4, ANSWERS = 1 + LISTS + ITEM_CALLS * ITEMS };
+enum { LISTS = 5, ITEMS = 4, ITEM_CALLS = 5, ANSWERS = 1 + LISTS + ITEM_CALLS * ITEMS };
 
 /* What is looked at: that a call makes no fault, and what it gives. */
-enum kind { CHECK, LIST, STATE, LEND, WHOLE, PACKED, SAME, KEPT, BEYOND, WITHIN, PARTS, KINDS };
+enum kind { CHECK, LIST, STATE, LEND, WHOLE_NUMBER, PACKED, VALUE, SAME, KEPT, BEYOND, WITHIN, PARTS, AGREED, KINDS };
 
 struct tally {
     const char *name;
@@ -36,13 +36,15 @@ static struct tally tallies[KINDS] = {
     [LIST] = {"fdoca_list stays within its bytes", 0, 0},
     [STATE] = {"fdoca_state stays within its bytes", 0, 0},
     [LEND] = {"fdoca_lend stays within its bytes", 0, 0},
-    [WHOLE] = {"fdoca_whole_number stays within its bytes", 0, 0},
+    [WHOLE_NUMBER] = {"fdoca_whole_number stays within its bytes", 0, 0},
     [PACKED] = {"fdoca_packed stays within its bytes", 0, 0},
+    [VALUE] = {"fdoca_value stays within its bytes", 0, 0},
     [SAME] = {"the answers are the same at both placements", 0, 0},
     [KEPT] = {"a refused list is as before", 0, 0},
     [BEYOND] = {"the entries beyond the list's are as before", 0, 0},
     [WITHIN] = {"a lent part lies within the data", 0, 0},
     [PARTS] = {"an item's parts go from its start to the next item's, around the lent value", 0, 0},
+    [AGREED] = {"a value is what the state and the whole number say, and what it has not is 0", 0, 0},
 };
 
 /* All that a call can give. */
@@ -50,6 +52,7 @@ struct answer {
     uint32_t number, place;
     uint32_t results[6]; /* one more than any call gives: answers are compared byte by byte, with none unused */
     int64_t value;
+    double real;
 };
 
 /* All that the calls give at one placement. */
@@ -65,7 +68,7 @@ static uint8_t *descriptors, *blocks, *lists;
 
 static struct view at_end, at_beginning;
 static const char *placement;
-static unsigned long cases, large_descriptors, large_blocks, met[FDOCA_ZERO_WIDTH_REPEAT + 1];
+static unsigned long cases, large_descriptors, large_blocks, met[FDOCA_NO_EXACT_FLOAT + 1];
 
 /* What the next call is given, and what it gave. */
 static const uint8_t *d, *s;
@@ -105,7 +108,12 @@ static void packed(void)
     got.number = fdoca_packed(d, d_size, s, s_size, item, &got.place, &got.results[0], &got.value, &got.results[1]);
 }
 
-static void (*const calls[])(void) = {check, list_items, state, lend, whole_number, packed};
+static void value(void)
+{
+    got.number = fdoca_value(d, d_size, s, s_size, item, &got.place, &got.results[0], &got.value, &got.real);
+}
+
+static void (*const calls[])(void) = {check, list_items, state, lend, whole_number, packed, value};
 
 static void print_hex(const uint8_t *bytes, size_t size)
 {
@@ -129,7 +137,7 @@ static void tell(enum kind kind, bool good)
 
 static void make(enum kind call, struct answer *answer)
 {
-    got = (struct answer){OLD, OLD, {OLD, OLD, OLD, OLD, OLD, OLD}, OLD_VALUE};
+    got = (struct answer){OLD, OLD, {OLD, OLD, OLD, OLD, OLD, OLD}, OLD_VALUE, OLD_REAL};
     tell(call, survives(calls[call]));
     if (got.number < COUNT(met))
         met[got.number]++;
@@ -189,6 +197,25 @@ static bool parts_fit(const uint32_t *all, uint32_t k, const struct answer *stat
     return lent->results[0] == start + lead && lent->results[1] == value && lead + value + spare == end - start;
 }
 
+/* What the value call gave, beside the item's state and whole number: it may refuse what is accepted there only if that is no
+ * whole number. */
+static bool value_agrees(const struct answer *state, const struct answer *whole, const struct answer *value)
+{
+    bool is_read = value->number == FDOCA_ACCEPTED, is_whole = whole->number == FDOCA_ACCEPTED;
+    bool is_judged = value->number == FDOCA_WRONG_TYPE || value->number == FDOCA_NO_EXACT_FLOAT;
+    uint32_t kind = FDOCA_KIND_WHOLE;
+
+    if (state->number != FDOCA_ACCEPTED ? value->number != state->number || value->place != state->place
+                                        : !is_read && (is_whole || !is_judged))
+        return false;
+    if (is_read && state->results[0] == 1)
+        kind = FDOCA_KIND_NULL;
+    else if (is_read && !is_whole)
+        kind = FDOCA_KIND_REAL;
+    return value->results[0] == kind && value->value == whole->value &&
+           (kind == FDOCA_KIND_REAL || bits_of(value->real) == 0);
+}
+
 static void make_item_calls(uint32_t number, const uint32_t *all, struct answer *answers)
 {
     item = number;
@@ -197,8 +224,10 @@ static void make_item_calls(uint32_t number, const uint32_t *all, struct answer 
     tell(WITHIN, got.results[0] <= s_size && got.results[1] <= s_size - got.results[0]);
     if (answers[0].number == FDOCA_ACCEPTED)
         tell(PARTS, number < all[0] && parts_fit(all, number, &answers[0], &answers[1]));
-    make(WHOLE, &answers[2]);
+    make(WHOLE_NUMBER, &answers[2]);
     make(PACKED, &answers[3]);
+    make(VALUE, &answers[4]);
+    tell(AGREED, value_agrees(&answers[0], &answers[2], &answers[4]));
 }
 
 /* Makes every call on the case, with its bytes at the end or at the beginning of their room. */

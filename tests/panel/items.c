@@ -1,7 +1,8 @@
 /*
  * Tests of the C calls that tell of one item: its state, where its value lies, its whole number. What these calls refuse
- * alike is in calls.c, the reading of packed decimals in packed.c, every length of floats in floats.c, items whose length a
- * GDA gives in columns.c. The last line printed is "N passed, M failed", and the exit status is 0 if none failed.
+ * alike is in calls.c, the reading of packed decimals in packed.c and of floats in values.c, every length of floats in
+ * floats.c, items whose length a GDA gives in columns.c. The last line printed is "N passed, M failed", and the exit status
+ * is 0 if none failed.
  */
 #include "support.h"
 
@@ -124,6 +125,8 @@ static void test_wrong_type(const struct item_case *c, struct bytes d, struct by
         expect(whole_gives(d, s, 0, 18, 0, 0, 0), "no whole number", c->name);
     if (type != FDOCA_TYPE_PACKED)
         expect(packed_gives(d, s, 0, 18, 0, 0, 0, 0), "no packed decimal", c->name);
+    if (!is_whole(type) && !is_float(type))
+        expect(value_gives(d, s, 0, (struct value)REFUSED(18, 0)), "no value", c->name);
 }
 
 static void test_items(const struct item_case *cases, size_t count)
@@ -194,6 +197,8 @@ static void test_wholes(void)
         struct bytes d = hex(c->descriptor), s = hex(c->data);
 
         expect(whole_gives(d, s, c->item, c->number, c->place, c->is_null, c->value), "whole number", c->name);
+        if (c->number == 0)
+            expect(value_gives(d, s, c->item, whole_value(c->is_null, c->value)), "value", c->name);
         free(d.at);
         free(s.at);
     }

@@ -23,9 +23,11 @@ static void add(struct bytes *bytes, const uint8_t *triplet)
     bytes->size += triplet[0];
 }
 
-/* SDAs of id 1 whose items have 8 bytes: whole numbers, and packed decimals of 15 digits. */
+/* SDAs of id 1 whose items have 8 bytes: whole numbers, packed decimals of 15 digits, and floats. */
 static const uint8_t wholes[] = {12, 0x70, 1, 0x23, 0, 0, 0, 0, 0, 0, 0, 8};
 static const uint8_t decimals[] = {12, 0x70, 1, 0x30, 0, 0, 0, 0, 0, 0, 15, 2};
+static const uint8_t hex_floats[] = {12, 0x70, 1, 0x40, 0, 0, 0, 0, 0, 0, 0, 8};
+static const uint8_t floats[] = {12, 0x70, 1, 0x48, 0, 0, 0, 0, 0, 0, 0, 8};
 
 /* What lies over the SDA of id 1, where in its groups a row refers to the lower one, and whether the last row does so to the
  * end. */
@@ -106,6 +108,21 @@ static void packed(void)
     answered = packed_gives(descriptor, data, FDOCA_MAX_ITEMS - 1, 0, 0, 0, -7, 2);
 }
 
+static void whole_as_value(void)
+{
+    answered = value_gives(descriptor, data, FDOCA_MAX_ITEMS - 1, (struct value)WHOLE(0x7D));
+}
+
+static void hex_float(void)
+{
+    answered = value_gives(descriptor, data, FDOCA_MAX_ITEMS - 1, (struct value)REAL(0x7Dp-312));
+}
+
+static void binary_float(void)
+{
+    answered = value_gives(descriptor, data, FDOCA_MAX_ITEMS - 1, (struct value)REAL(0x7Dp-1074));
+}
+
 struct call {
     const char *name;
     const uint8_t *sda;
@@ -119,6 +136,9 @@ static const struct call calls[] = {
     {"fdoca_lend", wholes, lend},
     {"fdoca_whole_number", wholes, whole_number},
     {"fdoca_packed", decimals, packed},
+    {"fdoca_value, whole", wholes, whole_as_value},
+    {"fdoca_value, X'40'", hex_floats, hex_float},
+    {"fdoca_value, X'48'", floats, binary_float},
 };
 
 /* One call on a thread: the lowest byte of its stack, whether all went well, and what the call took. */

@@ -22,6 +22,7 @@
 /* What is behind every pointer before a call. */
 #define OLD 0xA5A5A5A5u
 #define OLD_VALUE INT64_C(-0x5A5A5A5A5A5A5A5B)
+#define OLD_REAL (-0x1.5A5A5A5A5A5A5p-7)
 
 /* Entries behind the list that a call is not told of. */
 #define GUARD 64
@@ -77,6 +78,11 @@ static inline unsigned digit(char c)
 static inline bool is_whole(uint32_t type)
 {
     return type == FDOCA_TYPE_WHOLE || type == FDOCA_TYPE_WHOLE_REVERSED;
+}
+
+static inline bool is_float(uint32_t type)
+{
+    return type == FDOCA_TYPE_HEX_FLOAT || type == FDOCA_TYPE_FLOAT || type == FDOCA_TYPE_FLOAT_REVERSED;
 }
 
 static inline struct bytes hex(const char *text)
@@ -219,6 +225,47 @@ static inline bool packed_gives(struct bytes d, struct bytes s, uint32_t item, u
            got_fraction == fraction_digits;
 }
 
+/* All that the value call gives, and what it can be. */
+struct value {
+    uint32_t number, place, kind;
+    int64_t whole;
+    double real;
+};
+
+#define NO_VALUE {0, 0, FDOCA_KIND_NULL, 0, 0.0}
+#define WHOLE(value) {0, 0, FDOCA_KIND_WHOLE, value, 0.0}
+#define REAL(value) {0, 0, FDOCA_KIND_REAL, 0, value}
+#define REFUSED(number, place) {number, place, FDOCA_KIND_WHOLE, 0, 0.0}
+
+/* What the value call gives of a whole number, null or not. */
+static inline struct value whole_value(uint32_t is_null, int64_t value)
+{
+    return is_null ? (struct value)NO_VALUE : (struct value)WHOLE(value);
+}
+
+static inline uint64_t bits_of(double real)
+{
+    uint64_t bits;
+
+    memcpy(&bits, &real, sizeof bits);
+    return bits;
+}
+
+/* Floats are the same if their bits are, so that zeros of unlike sign are not. */
+static inline bool same_value(struct value one, struct value other)
+{
+    return one.number == other.number && one.place == other.place && one.kind == other.kind &&
+           one.whole == other.whole && bits_of(one.real) == bits_of(other.real);
+}
+
+static inline bool value_gives(struct bytes d, struct bytes s, uint32_t item, struct value expected)
+{
+    struct value got = {OLD, OLD, OLD, OLD_VALUE, OLD_REAL};
+
+    got.number = fdoca_value(d.at, d.size, s.at, s.size, item, &got.place, &got.kind, &got.whole, &got.real);
+    return same_value(got, expected);
+}
+
 /* What the calls for one item refuse alike. */
 static inline void expect_refused(struct bytes d, struct bytes s, uint32_t item, uint32_t number, uint32_t place,
                                   const char *name)
@@ -227,6 +274,7 @@ static inline void expect_refused(struct bytes d, struct bytes s, uint32_t item,
     expect(lend_gives(d, s, item, number, place, 0, 0), "lend refused", name);
     expect(whole_gives(d, s, item, number, place, 0, 0), "whole number refused", name);
     expect(packed_gives(d, s, item, number, place, 0, 0, 0), "packed decimal refused", name);
+    expect(value_gives(d, s, item, (struct value)REFUSED(number, place)), "value refused", name);
 }
 
 /* An item: its SDA's id, its start, and what the calls for one item give. The value is that of a number. */
@@ -254,6 +302,13 @@ static inline uint32_t start_of(const struct item *items, uint32_t k, struct byt
     return k < count_of(items) ? items[k].start : (uint32_t)s.size;
 }
 
+/* What the value call gives of an item that is no float. */
+static inline struct value value_of(const struct item *item)
+{
+    return is_whole(fdoca_plain_type(item->type_code)) ? whole_value(item->is_null, item->value)
+                                                       : (struct value)REFUSED(18, item->start);
+}
+
 static inline void test_item(struct bytes d, struct bytes s, uint32_t k, const struct item *items, const char *block)
 {
     const struct item *item = &items[k];
@@ -271,6 +326,8 @@ static inline void test_item(struct bytes d, struct bytes s, uint32_t k, const s
                ? packed_gives(d, s, k, 0, 0, item->is_null, item->value, item->fraction_digits)
                : packed_gives(d, s, k, 18, item->start, 0, 0, 0),
            "packed decimal", name);
+    if (!is_float(type))
+        expect(value_gives(d, s, k, value_of(item)), "value", name);
 }
 
 /* The list of so many items that take all of the data is given, whatever room there is beyond it. */

@@ -35,6 +35,7 @@ pub mod Packed
 pub mod Digits
 pub mod Floats
 pub mod FloatForms
+pub mod FloatExamples
 pub mod CallRows
 pub mod ReadRows
 pub mod PackedRows

@@ -67,9 +67,22 @@ extern "C" {
         value: &mut i64,
         fraction_digits: &mut u32,
     ) -> u32;
+
+    fn fdoca_value(
+        descriptor: *const u8,
+        descriptor_length: usize,
+        data: *const u8,
+        data_length: usize,
+        item: u32,
+        place: &mut u32,
+        kind: &mut u32,
+        whole: &mut i64,
+        real: &mut f64,
+    ) -> u32;
 }
 
-/// What a call gives: number 0 and place 0 if accepted, zeros as results if refused.
+/// What a call gives: number 0 and place 0 if accepted; if refused, the default results, which
+/// are zeros or the whole number 0.
 #[derive(Clone, Copy, Debug, PartialEq, Eq)]
 pub struct Answer<T> {
     pub number: u32,
@@ -180,9 +193,32 @@ impl From<reader::Packed> for Packed {
     }
 }
 
+/// A numeric item's value: kind 0 null, 1 whole, 2 real, and the bits of the float.
+#[derive(Clone, Copy, Debug, PartialEq, Eq)]
+pub struct Value {
+    pub kind: u32,
+    pub whole: i64,
+    pub real: u64,
+}
+
+impl Default for Value {
+    /// The whole number 0.
+    fn default() -> Value {
+        reader::Value::default().into()
+    }
+}
+
+impl From<reader::Value> for Value {
+    fn from(value: reader::Value) -> Value {
+        let (kind, whole, real) = value.numbers();
+        Value { kind, whole, real }
+    }
+}
+
 /// What a result holds before the call, so that one that is not written is seen.
 const UNWRITTEN: u32 = 0xDEAD_BEEF;
 const UNWRITTEN_VALUE: i64 = i64::MIN + 1;
+const UNWRITTEN_REAL: f64 = f64::from_bits(0x7FF8_DEAD_BEEF_DEAD);
 
 pub fn check(descriptor: &[u8]) -> Answer<u32> {
     let (mut place, mut results) = (UNWRITTEN, UNWRITTEN);
@@ -326,5 +362,32 @@ pub fn packed(descriptor: &[u8], data: &[u8], item: u32) -> Answer<Packed> {
         number,
         place,
         results,
+    }
+}
+
+pub fn value(descriptor: &[u8], data: &[u8], item: u32) -> Answer<Value> {
+    let (mut place, mut kind) = (UNWRITTEN, UNWRITTEN);
+    let (mut whole, mut real) = (UNWRITTEN_VALUE, UNWRITTEN_REAL);
+    let number = unsafe {
+        fdoca_value(
+            descriptor.as_ptr(),
+            descriptor.len(),
+            data.as_ptr(),
+            data.len(),
+            item,
+            &mut place,
+            &mut kind,
+            &mut whole,
+            &mut real,
+        )
+    };
+    Answer {
+        number,
+        place,
+        results: Value {
+            kind,
+            whole,
+            real: real.to_bits(),
+        },
     }
 }

@@ -97,6 +97,11 @@ impl Comparison {
         let expected = reader::packed(descriptor, data, item);
         self.agree(block, &format!("packed {item}"), packed, expected.into());
         self.met(packed.number);
+
+        let value = answers::value(descriptor, data, item);
+        let expected = reader::value(descriptor, data, item);
+        self.agree(block, &format!("value {item}"), value, expected.into());
+        self.met(value.number);
     }
 
     fn agree<T: PartialEq + Debug>(&mut self, block: Block, call: &str, library: T, reader: T) {

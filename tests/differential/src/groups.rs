@@ -9,6 +9,7 @@ mod limits;
 mod packed;
 mod parts;
 mod rows;
+mod values;
 
 use reader::generate::{Case, Generator};
 use reader::NO_SUCH_ITEM;
@@ -20,7 +21,7 @@ pub struct Group {
     pub run: fn(&mut Comparison),
 }
 
-pub const GROUPS: [Group; 25] = [
+pub const GROUPS: [Group; 30] = [
     Group {
         name: "valid blocks of every form",
         run: forms::every_form,
@@ -116,6 +117,26 @@ pub const GROUPS: [Group; 25] = [
     Group {
         name: "lead, value and spare of every type and mode",
         run: parts::every_part,
+    },
+    Group {
+        name: "values of floats of every characteristic",
+        run: values::every_characteristic,
+    },
+    Group {
+        name: "values of floats of one bit and of two",
+        run: values::few_bits,
+    },
+    Group {
+        name: "values of floats around 53 significant bits",
+        run: values::significant_bits,
+    },
+    Group {
+        name: "values of any bits",
+        run: values::any_bits,
+    },
+    Group {
+        name: "values of floats of other lengths",
+        run: values::other_lengths,
     },
     Group {
         name: "random bytes",

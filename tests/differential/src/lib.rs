@@ -59,6 +59,17 @@ pub fn packed(descriptor: &[u8], data: &[u8], item: u32) -> Result<Packed, Refus
     })
 }
 
+/// The value of the kind given; what the kind has not is 0.
+pub fn value(descriptor: &[u8], data: &[u8], item: u32) -> Result<Value, Refusal> {
+    let value = answers::value(descriptor, data, item).accepted()?;
+    Ok(match (value.kind, value.whole, value.real) {
+        (0, 0, 0) => Value::Null,
+        (1, whole, 0) => Value::Whole(whole),
+        (2, 0, bits) => Value::Real(f64::from_bits(bits)),
+        _ => panic!("{value:?}"),
+    })
+}
+
 fn is_marked(mark: u32) -> bool {
     assert!(mark <= 1, "null mark {mark}");
     mark == 1

@@ -24,3 +24,5 @@ mod parts;
 mod rows;
 #[path = "../../reader/tests/vectors/support.rs"]
 mod support;
+#[path = "../../reader/tests/vectors/values.rs"]
+mod values;

@@ -1,7 +1,8 @@
 //! Everything that the calls answer for one case.
 
 use crate::generate::Case;
-use crate::{check, lend, list, packed, state, whole_number, Packed, Refusal, State, Whole};
+use crate::{check, lend, list, packed, state, value, whole_number};
+use crate::{Packed, Refusal, State, Value, Whole};
 
 #[derive(Clone, Debug, PartialEq, Eq)]
 pub struct Answers {
@@ -12,6 +13,7 @@ pub struct Answers {
     pub lent: Vec<u8>,
     pub whole: Result<Whole, Refusal>,
     pub packed: Result<Packed, Refusal>,
+    pub value: Result<Value, Refusal>,
 }
 
 impl Answers {
@@ -26,26 +28,30 @@ impl Answers {
             lent: lend(descriptor, data, case.item).to_vec(),
             whole: whole_number(descriptor, data, case.item),
             packed: packed(descriptor, data, case.item),
+            value: value(descriptor, data, case.item),
         }
     }
 
-    /// The numbers of check, list, state, whole-number and packed decimal read, 0
+    /// The numbers of check, list, state, whole-number, packed decimal and value read, 0
     /// where accepted.
-    pub fn numbers(&self) -> [u32; 5] {
+    pub fn numbers(&self) -> [u32; 6] {
         [
             number(&self.check),
             number(&self.list),
             number(&self.state),
             number(&self.whole),
             number(&self.packed),
+            number(&self.value),
         ]
     }
 
     /// All answers as one list of numbers. Each call gives its number and place,
-    /// then its results, which are zeros on a refusal; the list and the lent
-    /// bytes have their length before them; a whole number is its null mark,
-    /// its sign and its magnitude, which is `-value - 1` for a negative value;
-    /// a packed decimal has its fraction digits behind the same.
+    /// then its results, which on a refusal are zeros, but for the kind of the
+    /// whole number 0; the list and the lent bytes have their length before them;
+    /// a whole number is its null mark, its sign and its magnitude, which is
+    /// `-value - 1` for a negative value; a packed decimal has its fraction digits
+    /// behind the same; a value is its kind, sign and magnitude of the whole
+    /// number, and the bits of the float.
     pub fn flat(&self) -> Vec<u64> {
         let mut flat = Vec::new();
         flat.extend(call(&self.check, |&count| [count.into()]));
@@ -64,6 +70,11 @@ impl Answers {
             let fraction_digits = packed.fraction_digits.into();
             [packed.is_null.into(), sign, magnitude, fraction_digits]
         }));
+        flat.extend(call(&self.value, |value| {
+            let (kind, whole, bits) = value.numbers();
+            let [sign, magnitude] = sign_and_magnitude(whole);
+            [kind.into(), sign, magnitude, bits]
+        }));
         flat
     }
 }
@@ -78,12 +89,12 @@ fn number<T>(answer: &Result<T, Refusal>) -> u32 {
     answer.as_ref().map_or_else(|refusal| refusal.number, |_| 0)
 }
 
-fn call<T, const N: usize>(
+/// Number and place, then the results; a refusal has the default ones.
+fn call<T: Default, const N: usize>(
     answer: &Result<T, Refusal>,
     results: impl FnOnce(&T) -> [u64; N],
 ) -> Vec<u64> {
-    match answer {
-        Ok(accepted) => [&[0, 0][..], &results(accepted)].concat(),
-        Err(refusal) => [&[refusal.number.into(), refusal.place.into()][..], &[0; N]].concat(),
-    }
+    let place = answer.as_ref().map_or_else(|refusal| refusal.place, |_| 0);
+    let results = results(answer.as_ref().unwrap_or(&T::default()));
+    [&[number(answer).into(), place.into()][..], &results].concat()
 }

@@ -2,7 +2,7 @@
 
 use std::collections::BTreeMap;
 
-use crate::refusal::{BAD_FILE, ENDLESS};
+use crate::refusal::{BAD_FILE, NO_EXACT_FLOAT};
 
 /// The times of each number that a call can give: of all but the dump program's own.
 #[derive(Debug)]
@@ -12,7 +12,7 @@ pub struct Counts {
 
 impl Default for Counts {
     fn default() -> Counts {
-        let numbers = (0..=ENDLESS).filter(|&number| number != BAD_FILE);
+        let numbers = (0..=NO_EXACT_FLOAT).filter(|&number| number != BAD_FILE);
         Counts {
             times: numbers.map(|number| (number, 0)).collect(),
         }

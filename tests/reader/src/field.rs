@@ -157,6 +157,11 @@ impl Field {
         self.parameters
     }
 
+    /// 0 or 1 of a binary float, 0 of any other type.
+    pub fn bias_indicator(&self) -> u16 {
+        u16::from_be_bytes([self.parameters[2], self.parameters[3]])
+    }
+
     /// Mode 0 sends all of the reserved space, mode 1 only what the value needs.
     pub fn mode(&self) -> u8 {
         self.parameters[5]

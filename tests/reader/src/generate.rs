@@ -4,6 +4,7 @@ mod damage;
 mod edges;
 mod extremes;
 mod fitting;
+mod floats;
 mod random;
 mod structured;
 
@@ -19,6 +20,9 @@ use crate::{unfold, walk, Unfolding};
 /// The longest descriptor, data block and unfolding of an ordinary case.
 const SMALL_BYTES: usize = 120;
 const SMALL_ITEMS: usize = 60;
+
+/// The plain types of whole numbers, packed decimals and floats.
+const NUMERIC_TYPES: [u8; 6] = [0x23, 0x24, 0x30, 0x40, 0x47, 0x48];
 
 /// The input of all calls.
 #[derive(Clone, Debug, PartialEq, Eq)]
@@ -198,11 +202,11 @@ impl Generator {
         }
     }
 
-    /// An item number: often of a whole number or a packed decimal, at times of no item.
+    /// An item number: often of a numeric item, at times of no item.
     fn item(&mut self, fields: &[Field]) -> u32 {
         let count = fields.len();
         let numbers: Vec<usize> = (0..count)
-            .filter(|&item| matches!(fields[item].plain_type(), 0x23 | 0x24 | 0x30))
+            .filter(|&item| NUMERIC_TYPES.contains(&fields[item].plain_type()))
             .collect();
         match self.random.below(20) {
             0 => count as u32,

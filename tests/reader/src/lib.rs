@@ -9,8 +9,10 @@ mod counts;
 mod descriptor;
 mod dump;
 mod field;
+mod float;
 pub mod generate;
 mod refusal;
+mod value;
 mod walk;
 
 pub use answers::Answers;
@@ -19,6 +21,7 @@ pub use descriptor::{unfold, Rows, Unfolding, MAX_DESCRIPTOR, MAX_ITEMS};
 pub use dump::dump;
 pub use field::Field;
 pub use refusal::*;
+pub use value::{value, Value};
 pub use walk::{walk, Note, Parts, MAX_DATA};
 
 use field::Form;

@@ -24,6 +24,8 @@ enum Form {
     Reserved(u8, bool),
     /// The digits of a packed decimal.
     Digits(u8),
+    /// The type code of a float, its field length and its bias indicator.
+    Float(u8, usize, u16),
     /// The type code of a float whose field length gives way to the type's default.
     Default(u8),
     Extents(usize),
@@ -62,6 +64,21 @@ const TYPES: [(u8, &[u8], &[bool]); 10] = [
     (0x48, &[0], &SOME_LENGTH),
 ];
 
+/// Plain type, field length, bias indicator.
+const FLOATS: [(u8, usize, u16); 11] = [
+    (0x40, 4, 0),
+    (0x40, 8, 0),
+    (0x40, 16, 0),
+    (0x47, 4, 0),
+    (0x47, 4, 1),
+    (0x47, 8, 0),
+    (0x47, 8, 1),
+    (0x48, 4, 0),
+    (0x48, 4, 1),
+    (0x48, 8, 0),
+    (0x48, 8, 1),
+];
+
 pub fn every_form(comparison: &mut Comparison) {
     let mut missing = all_forms();
     for case in Generator::new(4).filter(is_accepted).take(20_000) {
@@ -95,7 +112,7 @@ fn all_forms() -> BTreeSet<Form> {
     forms.extend([SDA, RLO, GDA].map(Form::Rows));
     forms.extend((0..=3).map(Form::Passes));
     forms.extend((1..=18).map(Form::Digits));
-    forms.extend([0x40, 0x47, 0x48, 0xC0, 0xC7, 0xC8].map(Form::Default));
+    forms.extend(float_forms());
     for (plain, modes, lengths) in TYPES {
         forms.insert(Form::Null(plain + 0x80));
         for type_code in [plain, plain + 0x80] {
@@ -115,6 +132,16 @@ fn all_forms() -> BTreeSet<Form> {
     forms
 }
 
+fn float_forms() -> impl Iterator<Item = Form> {
+    let defaults = [0x40, 0x47, 0x48, 0xC0, 0xC7, 0xC8].map(Form::Default);
+    let floats = FLOATS
+        .into_iter()
+        .flat_map(|(plain, length, bias_indicator)| {
+            [plain, plain + 0x80].map(|code| Form::Float(code, length, bias_indicator))
+        });
+    defaults.into_iter().chain(floats)
+}
+
 fn forms(case: &Case) -> Vec<Form> {
     let unfolding = unfold(&case.descriptor).expect("a valid descriptor");
     let notes = walk(&unfolding, &case.data).expect("a good block");
@@ -122,8 +149,7 @@ fn forms(case: &Case) -> Vec<Form> {
     let mut forms: Vec<Form> = fields.iter().map(field_form).collect();
     let items = fields.iter().zip(&notes);
     forms.extend(items.filter_map(|(field, note)| part_form(field, note)));
-    let packed = fields.iter().filter(|field| field.plain_type() == 0x30);
-    forms.extend(packed.map(|field| Form::Digits(field.parameters()[6])));
+    forms.extend(fields.iter().filter_map(number_form));
     forms.extend(rows_forms(&unfolding, notes.len()));
     let triplets = triplets(&case.descriptor);
     let mut continued = 0;
@@ -170,6 +196,18 @@ fn field_form(field: &Field) -> Form {
         type_code: field.type_code(),
         mode: field.mode(),
         has_length: field.field_length() > 0,
+    }
+}
+
+fn number_form(field: &Field) -> Option<Form> {
+    let type_code = field.type_code();
+    match field.plain_type() {
+        0x30 => Some(Form::Digits(field.parameters()[6])),
+        0x40 | 0x47 | 0x48 => {
+            let length = field.field_length();
+            Some(Form::Float(type_code, length, field.bias_indicator()))
+        }
+        _ => None,
     }
 }
 

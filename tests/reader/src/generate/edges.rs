@@ -6,6 +6,7 @@ mod floats;
 mod packed;
 mod parts;
 mod rows;
+mod values;
 
 use super::fitting;
 use super::random::Random;
@@ -34,6 +35,7 @@ pub fn edges() -> Vec<Case> {
     cases.extend(columns::blocks());
     cases.extend(rows::blocks());
     cases.extend(parts::blocks());
+    cases.extend(values::blocks());
     cases
 }
 
@@ -344,8 +346,7 @@ fn blocks() -> Vec<Case> {
     cases
 }
 
-/// Whole numbers and packed decimals asked of every type: of four bytes, of bytes that
-/// fit, and of a null.
+/// Values asked of every type: of four bytes, of bytes that fit, and of a null.
 fn asked_of_every_type(random: &mut Random) -> Vec<Case> {
     let mut cases = Vec::new();
     for code in plain_types() {

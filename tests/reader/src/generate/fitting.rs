@@ -1,5 +1,6 @@
 //! Data blocks that fit an unfolding, or fail to in one item.
 
+use super::floats::{any_float, Layout};
 use super::random::Random;
 use crate::field::{Field, Form};
 
@@ -53,7 +54,10 @@ fn item(random: &mut Random, field: &Field) -> Vec<u8> {
 
 fn value(random: &mut Random, field: &Field) -> Vec<u8> {
     match field.form() {
-        Form::Fixed => fixed(random, field.field_length()),
+        Form::Fixed => match Layout::of(field.plain_type(), field.field_length()) {
+            Some(layout) => any_float(random, layout),
+            None => fixed(random, field.field_length()),
+        },
         Form::Variable | Form::Short => counted(random, field),
         Form::NullTerminated => null_terminated(random, field),
         Form::Packed => packed(random, field.digits()),

@@ -42,6 +42,11 @@ impl Random {
         self.next() as u32
     }
 
+    /// A number of at most so many bits, from 1 to 64.
+    pub fn bits(&mut self, count: u32) -> u64 {
+        self.next() >> (u64::BITS - count)
+    }
+
     pub fn bytes(&mut self, count: usize) -> Vec<u8> {
         (0..count).map(|_| self.byte()).collect()
     }

@@ -4,10 +4,9 @@ use super::random::Random;
 use crate::descriptor::{CPT, GDA, ISD, RLO, SDA};
 use crate::field::NULLABLE;
 
-/// The plain field types; whole numbers and packed decimals stand twice so that they
-/// come more often.
-pub(super) const TYPES: [u8; 13] = [
-    0x01, 0x02, 0x03, 0x07, 0x23, 0x24, 0x23, 0x24, 0x30, 0x30, 0x40, 0x47, 0x48,
+/// The plain field types; the numeric ones stand twice so that they come more often.
+pub(super) const TYPES: [u8; 16] = [
+    0x01, 0x02, 0x03, 0x07, 0x23, 0x24, 0x23, 0x24, 0x30, 0x30, 0x40, 0x47, 0x48, 0x40, 0x47, 0x48,
 ];
 
 /// The triplets of a valid descriptor of at most `items` items, and of at most so many in a pass of

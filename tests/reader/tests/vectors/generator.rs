@@ -1,5 +1,7 @@
 //! The random cases, and what must hold of the answers to any of them.
 
+use std::collections::BTreeMap;
+
 use reader::generate::{limits, Case, Generator};
 use reader::*;
 
@@ -36,6 +38,65 @@ fn packed_decimals_of_every_kind_are_read() {
     assert_often("minus", |decimal| decimal.value < 0);
     assert_often("whole", |decimal| decimal.fraction_digits == 0);
     assert_often("long", |decimal| decimal.value.abs() >= 10_i64.pow(16));
+}
+
+/// What the value call says of binary floats of 4 bytes and of 8.
+const SHORT: &[&str] = &["null", "zero", "real", "no float"];
+const LONG: &[&str] = &["null", "zero", "denormal", "real", "no float"];
+
+/// Plain type, field length, bias indicator, and what the value call says of such items.
+const VALUES: [(u8, usize, u16, &[&str]); 16] = [
+    (0x01, 2, 0, &["wrong kind"]),
+    (0x23, 2, 0, &["null", "whole"]),
+    (0x23, 8, 0, &["null", "whole"]),
+    (0x24, 4, 0, &["null", "whole"]),
+    (0x30, 2, 0, &["wrong kind"]),
+    (0x40, 4, 0, &["null", "zero", "real"]),
+    (0x40, 8, 0, &["null", "zero", "real", "no float"]),
+    (0x40, 16, 0, &["wrong kind"]),
+    (0x47, 4, 0, SHORT),
+    (0x47, 4, 1, &["wrong kind"]),
+    (0x47, 8, 0, LONG),
+    (0x47, 8, 1, &["wrong kind"]),
+    (0x48, 4, 0, SHORT),
+    (0x48, 4, 1, &["wrong kind"]),
+    (0x48, 8, 0, LONG),
+    (0x48, 8, 1, &["wrong kind"]),
+];
+
+/// A word for what the value call says of an item.
+fn value_word(case: &Case) -> Option<&'static str> {
+    match value(&case.descriptor, &case.data, case.item) {
+        Ok(Value::Null) => Some("null"),
+        Ok(Value::Whole(_)) => Some("whole"),
+        Ok(Value::Real(0.0)) => Some("zero"),
+        Ok(Value::Real(real)) if real.is_subnormal() => Some("denormal"),
+        Ok(Value::Real(_)) => Some("real"),
+        Err(refusal) if refusal.number == WRONG_KIND => Some("wrong kind"),
+        Err(refusal) if refusal.number == NO_EXACT_FLOAT => Some("no float"),
+        Err(_) => None,
+    }
+}
+
+#[test]
+fn values_of_every_kind_are_asked() {
+    let mut met = BTreeMap::new();
+    for case in Generator::new(6).take(20_000) {
+        if let Some(word) = value_word(&case) {
+            let unfolding = unfold(&case.descriptor).expect("a valid descriptor");
+            let field = unfolding.iter().nth(case.item as usize).expect("an item");
+            let parameters = (field.field_length(), field.bias_indicator());
+            let key = (field.plain_type(), parameters, word);
+            *met.entry(key).or_insert(0) += 1;
+        }
+    }
+    for (plain, length, bias_indicator, words) in VALUES {
+        for &word in words {
+            let key = (plain, (length, bias_indicator), word);
+            let times = met.get(&key).copied().unwrap_or(0);
+            assert!(times >= 5, "{key:X?}: {times}");
+        }
+    }
 }
 
 #[test]
@@ -111,7 +172,15 @@ fn answers_agree_with_each_other() {
                 assert!(answers.lent.is_empty());
                 assert_eq!(answers.whole, Err(refusal));
                 assert_eq!(answers.packed, Err(refusal));
+                assert_eq!(answers.value, Err(refusal));
             }
+        }
+        if let Ok(whole) = answers.whole {
+            let expected = match whole.is_null {
+                true => Value::Null,
+                false => Value::Whole(whole.value),
+            };
+            assert_eq!(answers.value, Ok(expected));
         }
     }
 }
@@ -226,7 +295,7 @@ fn rows_to_the_end_are_as_many_as_there_are() {
 #[test]
 fn rows_to_the_end_have_none_to_many_passes() {
     let mut met = [0; 10];
-    for passes in good_blocks(9, 3_000).filter_map(|block| block.passes()) {
+    for passes in good_blocks(9, 6_000).filter_map(|block| block.passes()) {
         met[passes.len().min(9)] += 1;
     }
     assert!(met.iter().all(|&times| times > 0), "{met:?}");

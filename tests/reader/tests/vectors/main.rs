@@ -12,3 +12,4 @@ mod packed;
 mod parts;
 mod rows;
 mod support;
+mod values;

@@ -59,6 +59,7 @@ fn assert_count(name: &str, descriptor: &[u8], data: &[u8], count: u32) {
         let whole = whole_number(descriptor, data, item);
         assert_eq!(whole, Err(no_such_item), "{name}");
         assert_eq!(packed(descriptor, data, item), Err(no_such_item), "{name}");
+        assert_eq!(value(descriptor, data, item), Err(no_such_item), "{name}");
         assert!(lend(descriptor, data, item).is_empty(), "{name}");
     }
 }

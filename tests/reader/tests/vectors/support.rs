@@ -42,6 +42,12 @@ pub enum Answer {
     Packed(i64, u32),
     /// A packed decimal of a half-byte that is not valid.
     BadDigit,
+    /// The bits of a float's value.
+    Real(u64),
+    /// A float that no 64-bit float is equal to.
+    NoFloat,
+    /// No whole number and no float that is read.
+    WrongKind,
 }
 
 impl Answer {
@@ -62,6 +68,9 @@ impl Answer {
                 )
             }
             "bad" => Answer::BadDigit,
+            "real" => Answer::Real(u64::from_str_radix(rest, 16).expect(text)),
+            "no" => Answer::NoFloat,
+            "wrong" => Answer::WrongKind,
             _ => panic!("{text}"),
         }
     }
@@ -212,6 +221,7 @@ fn assert_refused(name: &str, descriptor: &[u8], data: &[u8], refusal: Refusal) 
         assert_eq!(state_numbers(descriptor, data, item), [0; 5], "{name}");
         assert_eq!(whole_number(descriptor, data, item), Err(refusal), "{name}");
         assert_eq!(packed(descriptor, data, item), Err(refusal), "{name}");
+        assert_eq!(value(descriptor, data, item), Err(refusal), "{name}");
         assert!(lend(descriptor, data, item).is_empty(), "{name}");
     }
 }
@@ -227,24 +237,8 @@ fn assert_item(name: &str, descriptor: &[u8], data: &[u8], answer: &Answer) {
         Answer::Length(length) => assert_eq!(lent.len(), *length, "{name}"),
         Answer::Parts(expected) => assert_eq!(parts, *expected, "{name}"),
         Answer::Value(value) => assert_eq!(lent[..], value[..], "{name}"),
-        Answer::Whole(value) => {
-            let whole = whole_number(descriptor, data, 0).expect(name);
-            assert_eq!((whole.is_null, whole.value), (false, *value), "{name}");
-        }
-        Answer::Packed(value, fraction_digits) => {
-            let expected = Packed {
-                is_null: false,
-                value: *value,
-                fraction_digits: *fraction_digits,
-            };
-            assert_eq!(packed(descriptor, data, 0), Ok(expected), "{name}");
-        }
-        Answer::BadDigit => {
-            let answer = packed(descriptor, data, 0);
-            assert_eq!(answer, refused(BAD_DIGIT, 0), "{name}");
-        }
         Answer::Null => assert_eq!(parts, [1, 0, 0], "{name}"),
-        Answer::Refused(_) => unreachable!("{name}"),
+        _ => assert_number(name, descriptor, data, answer),
     }
     assert_wrong_kinds(name, descriptor, data, 0, descriptor[3], 0);
     let mut entries = [u32::MAX; 5];
@@ -257,13 +251,46 @@ fn assert_item(name: &str, descriptor: &[u8], data: &[u8], answer: &Answer) {
     }
 }
 
+/// Asserts what the value calls give for item 0, which is no null.
+fn assert_number(name: &str, descriptor: &[u8], data: &[u8], answer: &Answer) {
+    let whole = whole_number(descriptor, data, 0);
+    let packed = packed(descriptor, data, 0);
+    let value = value(descriptor, data, 0);
+    match *answer {
+        Answer::Whole(number) => {
+            let expected = Whole {
+                is_null: false,
+                value: number,
+            };
+            assert_eq!(whole, Ok(expected), "{name}");
+            assert_eq!(value, Ok(Value::Whole(number)), "{name}");
+        }
+        Answer::Packed(number, fraction_digits) => {
+            let expected = Packed {
+                is_null: false,
+                value: number,
+                fraction_digits,
+            };
+            assert_eq!(packed, Ok(expected), "{name}");
+        }
+        Answer::BadDigit => assert_eq!(packed, refused(BAD_DIGIT, 0), "{name}"),
+        Answer::Real(bits) => {
+            let expected = Value::Real(f64::from_bits(bits));
+            assert_eq!(value, Ok(expected), "{name}");
+        }
+        Answer::NoFloat => assert_eq!(value, refused(NO_EXACT_FLOAT, 0), "{name}"),
+        Answer::WrongKind => assert_eq!(value, refused(WRONG_KIND, 0), "{name}"),
+        _ => unreachable!("{name}"),
+    }
+}
+
 /// Asserts that a value is lent from behind the lead of an item at the front of some bytes.
 pub fn assert_lent(name: &str, lent: &[u8], bytes: &[u8], [lead, value, _]: [usize; 3]) {
     let part = &bytes[lead..lead + value];
     assert_eq!(lent.as_ptr_range(), part.as_ptr_range(), "{name}");
 }
 
-/// Asserts that the value calls refuse an item at its start, but for the one of its type.
+/// Asserts that the value calls refuse an item at its start, but for those of its type.
 pub fn assert_wrong_kinds(
     name: &str,
     descriptor: &[u8],
@@ -279,6 +306,10 @@ pub fn assert_wrong_kinds(
     }
     if plain != 0x30 {
         let answer = packed(descriptor, data, item);
+        assert_eq!(answer, refused(WRONG_KIND, start), "{name}");
+    }
+    if matches!(plain, 0x01 | 0x02 | 0x03 | 0x07 | 0x30) {
+        let answer = value(descriptor, data, item);
         assert_eq!(answer, refused(WRONG_KIND, start), "{name}");
     }
 }
