@@ -29,24 +29,6 @@ Some o = (v : Float) × (o ≡ some v)
 once : (m : ℕ) → m ≡ m * 2 ^ 0
 once m = sym (mul-one m)
 
--- BINARY: d bits of fraction; p is the power of 2 ^ -1074 that a characteristic of 1 has
-module _ (s : Bool) (c t d l p : ℕ) (at : p + l ≡ 1075) (few : d ≤ 52) (digits : t < 2 ^ d) (range : c + p ≤ 2046) where
-  hidden : 2 ^ d ≤ 2 ^ 52
-  hidden = pow-mono few
-
-  below : t < 2 ^ 53
-  below = omega (arith, hidden)
-
-  below-too : 2 ^ d + t < 2 ^ 53
-  below-too = omega (arith, hidden)
-
-  in-binary : Some (equalFloat (if eqb c 0 then record { negative = s; m = t; e = minus 1 l } else record { negative = s; m = 2 ^ d + t; e = minus c l }))
-  in-binary =
-      by-eq (λ n. Some (equalFloat n)) c 0
-      (λ z. has-float s t 1 l p (omega arith) t 0 below (once t) (in-reach 53 p below (omega arith)))
-      (λ z. let a : c + p - 1 + l ≡ c + 1074 = omega arith in
-      has-float s (2 ^ d + t) c l (c + p - 1) a (2 ^ d + t) 0 below-too (once (2 ^ d + t)) (in-reach 53 (c + p - 1) below-too (omega arith)))
-
 -- the float of bits whose characteristic is in range
 pub in-range : (f : Format) (bits : ℕ) → characteristic f bits ≤ f .maximum → floatOf f bits ≡ equalFloat (numberOf f bits)
 unfolding floatOf
@@ -55,59 +37,6 @@ in-range f bits h = rw (le-ltb _ _ h)
 pub above-maximum : (f : Format) (bits : ℕ) → f .maximum < characteristic f bits → floatOf f bits ≡ none
 unfolding floatOf
 above-maximum f bits h = rw (lt-ltb _ _ h)
-
-pub short-binary : (bits : ℕ) → characteristic shortBinary bits ≤ 254 → Some (floatOf shortBinary bits)
-unfolding numberOf fraction
-short-binary bits h =
-    let (v, e) = in-binary (isNegative shortBinary bits) (characteristic shortBinary bits) (bits % 2 ^ 23) 23 150 925 (omega arith) (omega arith) (omega arith) (omega arith) in
-    (v, in-range shortBinary bits h ∙ e)
-
-pub long-binary : (bits : ℕ) → characteristic longBinary bits ≤ 2046 → Some (floatOf longBinary bits)
-unfolding numberOf fraction
-long-binary bits h =
-    let (v, e) = in-binary (isNegative longBinary bits) (characteristic longBinary bits) (bits % 2 ^ 52) 52 1075 0 (omega arith) (omega arith) (omega arith) (omega arith) in
-    (v, in-range longBinary bits h ∙ e)
-
--- HEXADECIMAL: a characteristic of 7 bits is never above the maximum
-short-seven : (bits : ℕ) → characteristic shortHexadecimal bits ≤ 127
-unfolding characteristic
-short-seven bits = omega arith
-
-long-seven : (bits : ℕ) → characteristic longHexadecimal bits ≤ 127
-unfolding characteristic
-long-seven bits = omega arith
-
-pub short-hexadecimal : (bits : ℕ) → Some (floatOf shortHexadecimal bits)
-unfolding numberOf fraction
-short-hexadecimal bits =
-    let s = isNegative shortHexadecimal bits in
-    let c = characteristic shortHexadecimal bits in
-    let t = bits % 2 ^ 24 in
-    let l : t < 2 ^ 24 = omega arith in
-    let h : c ≤ 127 = short-seven bits in
-    let (v, e) = has-float s t (4 * c) 280 (4 * c + 794) (omega arith) t 0 (omega arith) (once t) (in-reach 24 (4 * c + 794) l (omega arith)) in
-    (v, in-range shortHexadecimal bits h ∙ e)
-
-not-below : (a b : ℕ) → (b < a → ⊥) → a ≤ b
-not-below a b h = omega (arith, h)
-
--- A long one has none exactly where its fraction has more than 53 significant bits.
-pub long-over : (bits : ℕ) → Over53 (bits % 2 ^ 56) → floatOf longHexadecimal bits ≡ none
-unfolding numberOf fraction
-long-over bits o = in-range longHexadecimal bits (long-seven bits) ∙ over-none (numberOf longHexadecimal bits) o
-
-pub long-none : (bits : ℕ) → floatOf longHexadecimal bits ≡ none → Over53 (bits % 2 ^ 56)
-unfolding numberOf fraction
-long-none bits n q r e =
-    let s = isNegative longHexadecimal bits in
-    let c = characteristic longHexadecimal bits in
-    let t = bits % 2 ^ 56 in
-    let l : t < 2 ^ 56 = omega arith in
-    let h : c ≤ 127 = long-seven bits in
-    not-below (2 ^ 53) q (λ k. let (v, g) = has-float s t (4 * c) 312 (4 * c + 762) (omega arith) q r k e (in-reach 56 (4 * c + 762) l (omega arith)) in
-    let x : some v ≡ none = sym g ∙ sym (in-range longHexadecimal bits h) ∙ n in
-    let z : _≡_ {A = ℕ} 0 1 = cc in
-    let w : ⊥ = omega arith in w)
 
 -- ALL OF THEM: a float that is given is the one of 64 bits that equals the number, and the characteristic is in range.
 pub float-is : (f : Format) (bits : ℕ) (v : Float) → floatOf f bits ≡ some v → (characteristic f bits ≤ f .maximum) × T (fits binary64 v) × Equal v (numberOf f bits)
@@ -168,3 +97,76 @@ bits-back bits v l e =
     let g : floatOf longBinary bits ≡ some w = is-float longBinary bits w h (ofBits-fits binary64 bits) (as-fields bits h) in
     let same : v ≡ w = let x : some v ≡ some w = sym e ∙ g in cc in
     rw same (toBits-ofBits binary64 bits (omega arith) (subst (λ (x : Bool). T (not x)) (nanBits-is binary64 bits) (no-nan bits h)))
+
+-- BINARY: d bits of fraction; p is the power of 2 ^ -1074 that a characteristic of 1 has
+module _ (s : Bool) (c t d l p : ℕ) (at : p + l ≡ 1075) (few : d ≤ 52) (digits : t < 2 ^ d) (range : c + p ≤ 2046) where
+  hidden : 2 ^ d ≤ 2 ^ 52
+  hidden = pow-mono few
+
+  below : t < 2 ^ 53
+  below = omega (arith, hidden)
+
+  below-too : 2 ^ d + t < 2 ^ 53
+  below-too = omega (arith, hidden)
+
+  in-binary : Some (equalFloat (if eqb c 0 then record { negative = s; m = t; e = minus 1 l } else record { negative = s; m = 2 ^ d + t; e = minus c l }))
+  in-binary =
+      by-eq (λ n. Some (equalFloat n)) c 0
+      (λ z. has-float s t 1 l p (omega arith) t 0 below (once t) (in-reach 53 p below (omega arith)))
+      (λ z. let a : c + p - 1 + l ≡ c + 1074 = omega arith in
+      has-float s (2 ^ d + t) c l (c + p - 1) a (2 ^ d + t) 0 below-too (once (2 ^ d + t)) (in-reach 53 (c + p - 1) below-too (omega arith)))
+
+pub long-binary : (bits : ℕ) → characteristic longBinary bits ≤ longBinary .maximum → Some (floatOf longBinary bits)
+unfolding numberOf fraction
+long-binary bits h =
+    let l = longBinary .bias + longBinary .fractionBits in
+    let (v, e) = in-binary (isNegative longBinary bits) (characteristic longBinary bits) (bits % 2 ^ 52) 52 l (1075 - l) (omega arith) (omega arith) (omega arith) (omega arith) in
+    (v, in-range longBinary bits h ∙ e)
+
+pub short-binary : (bits : ℕ) → characteristic shortBinary bits ≤ shortBinary .maximum → Some (floatOf shortBinary bits)
+unfolding numberOf fraction
+short-binary bits h =
+    let l = shortBinary .bias + shortBinary .fractionBits in
+    let (v, e) = in-binary (isNegative shortBinary bits) (characteristic shortBinary bits) (bits % 2 ^ 23) 23 l (1075 - l) (omega arith) (omega arith) (omega arith) (omega arith) in
+    (v, in-range shortBinary bits h ∙ e)
+
+-- HEXADECIMAL: a characteristic of 7 bits is never above the maximum
+short-seven : (bits : ℕ) → characteristic shortHexadecimal bits ≤ 127
+unfolding characteristic
+short-seven bits = omega arith
+
+long-seven : (bits : ℕ) → characteristic longHexadecimal bits ≤ 127
+unfolding characteristic
+long-seven bits = omega arith
+
+pub short-hexadecimal : (bits : ℕ) → Some (floatOf shortHexadecimal bits)
+unfolding numberOf fraction
+short-hexadecimal bits =
+    let s = isNegative shortHexadecimal bits in
+    let c = characteristic shortHexadecimal bits in
+    let t = bits % 2 ^ 24 in
+    let l : t < 2 ^ 24 = omega arith in
+    let h : c ≤ 127 = short-seven bits in
+    let (v, e) = has-float s t (4 * c) 280 (4 * c + 794) (omega arith) t 0 (omega arith) (once t) (in-reach 24 (4 * c + 794) l (omega arith)) in
+    (v, in-range shortHexadecimal bits h ∙ e)
+
+not-below : (a b : ℕ) → (b < a → ⊥) → a ≤ b
+not-below a b h = omega (arith, h)
+
+-- A long one has none exactly where its fraction has more than 53 significant bits.
+pub long-over : (bits : ℕ) → Over53 (bits % 2 ^ 56) → floatOf longHexadecimal bits ≡ none
+unfolding numberOf fraction
+long-over bits o = in-range longHexadecimal bits (long-seven bits) ∙ over-none (numberOf longHexadecimal bits) o
+
+pub long-none : (bits : ℕ) → floatOf longHexadecimal bits ≡ none → Over53 (bits % 2 ^ 56)
+unfolding numberOf fraction
+long-none bits n q r e =
+    let s = isNegative longHexadecimal bits in
+    let c = characteristic longHexadecimal bits in
+    let t = bits % 2 ^ 56 in
+    let l : t < 2 ^ 56 = omega arith in
+    let h : c ≤ 127 = long-seven bits in
+    not-below (2 ^ 53) q (λ k. let (v, g) = has-float s t (4 * c) 312 (4 * c + 762) (omega arith) q r k e (in-reach 56 (4 * c + 762) l (omega arith)) in
+    let x : some v ≡ none = sym g ∙ sym (in-range longHexadecimal bits h) ∙ n in
+    let z : _≡_ {A = ℕ} 0 1 = cc in
+    let w : ⊥ = omega arith in w)

@@ -182,12 +182,6 @@ only-canonical n x f h =
     unique x (canonical n) (n .negative) (n .m * up (n .e)) (down (n .e)) (down-above (n .e)) (fits-written x _ _ _ f v) (canonical-written n) v (canonical-worth n)
 
 -- `equalFloat` is the one 64-bit float that equals the number, where there is one.
-pub is-equal-float : (n : Number) (v : Float) → T (fits binary64 v) → Equal v n → equalFloat n ≡ some v
-unfolding equalFloat
-is-equal-float n v f h =
-    let e = only-canonical n v f h in
-    rw (← e, is-true (fits binary64 v) f)
-
 pub equal-float-is : (n : Number) (v : Float) → equalFloat n ≡ some v → T (fits binary64 v) × Equal v n
 unfolding equalFloat
 equal-float-is n v = go (fits binary64 (canonical n)) refl
@@ -195,6 +189,12 @@ equal-float-is n v = go (fits binary64 (canonical n)) refl
     go : (b : Bool) → fits binary64 (canonical n) ≡ b → (if b then some (canonical n) else none) ≡ some v → T (fits binary64 v) × Equal v n
     go true e h = let q : canonical n ≡ v = cc in rw (← q) (rw e tt, canonical-equal n)
     go false e h = absurd (let z : _≡_ {A = ℕ} 0 1 = cc in let w : ⊥ = omega arith in w)
+
+pub is-equal-float : (n : Number) (v : Float) → T (fits binary64 v) → Equal v n → equalFloat n ≡ some v
+unfolding equalFloat
+is-equal-float n v f h =
+    let e = only-canonical n v f h in
+    rw (← e, is-true (fits binary64 v) f)
 
 pub no-equal-float : (n : Number) → ((x : Float) → T (fits binary64 x) → Equal x n → ⊥) → equalFloat n ≡ none
 no-equal-float n h = go (equalFloat n) refl

@@ -43,16 +43,16 @@ pub at-most : (n m : ℕ) (ns : List ℕ) → allAtMost m ns ≡ true → OneOf 
 at-most n m (k ∷ ns) h (here e) = rw e (leb-true k m (and-left (leb k m) (allAtMost m ns) h))
 at-most n m (k ∷ ns) h (there o) = at-most n m ns (and-right (leb k m) (allAtMost m ns) h) o
 
+by-length : (P : ℕ → Type 0) (F : ℕ) → P 4 → P 8 → FourOrEight F → P F
+by-length P F a b (here q) = rw q a
+by-length P F a b (there (here q)) = rw q b
+
+not-none : {A : Type 0} {a : A} → some a ≡ none → ⊥
+not-none e = let z : _≡_ {A = ℕ} 0 1 = cc in omega arith
+
 -- a table with 4 and 8
 module _ {A : Type 0} (a b : A) (F : ℕ) where
-  abbrev pub Table : Option A
-  Table = lookup F ((4, a) ∷ (8, b) ∷ [])
-
-  in-table : FourOrEight F → Table ≡ none → ⊥
-  in-table (here q) k = let y = rw q at k in let z : _≡_ {A = ℕ} 0 1 = cc in omega arith
-  in-table (there (here q)) k = let y = rw q at k in let z : _≡_ {A = ℕ} 0 1 = cc in omega arith
-
-  pub of-table : (r : A) → Table ≡ some r → ((F ≡ 4) × (a ≡ r)) ⊎ ((F ≡ 8) × (b ≡ r))
+  pub of-table : (r : A) → lookup F ((4, a) ∷ (8, b) ∷ []) ≡ some r → ((F ≡ 4) × (a ≡ r)) ⊎ ((F ≡ 8) × (b ≡ r))
   of-table r = go (eqb F 4) (eqb F 8) refl refl
     where
       go : (x y : Bool) → eqb F 4 ≡ x → eqb F 8 ≡ y → (if x then some a else if y then some b else none) ≡ some r → ((F ≡ 4) × (a ≡ r)) ⊎ ((F ≡ 8) × (b ≡ r))
@@ -64,19 +64,16 @@ module _ (f : Field) (g : GoodField f) where
   -- a field without a reading has none of the numeric types
   none-wrong : readingOf f ≡ none → Numeric f → ⊥
   unfolding readingBy ruleOf
-  none-wrong n (whole-number t) =
-      let k = rw (type-is f (g .typed) 0x23 integer (omega arith) refl t) at n in
-      let z : _≡_ {A = ℕ} 0 1 = cc in omega arith
-  none-wrong n (reversed-whole-number t) =
-      let k = rw (type-is f (g .typed) 0x24 reversedInteger (omega arith) refl t) at n in
-      let z : _≡_ {A = ℕ} 0 1 = cc in omega arith
-  none-wrong n (hexadecimal-float t x) = in-table _ _ (fieldLength f) x (rw (type-is f (g .typed) 0x40 hexFloat (omega arith) refl t) at n)
+  none-wrong n (whole-number t) = not-none (rw (type-is f (g .typed) 0x23 integer (omega arith) refl t) at n)
+  none-wrong n (reversed-whole-number t) = not-none (rw (type-is f (g .typed) 0x24 reversedInteger (omega arith) refl t) at n)
+  none-wrong n (hexadecimal-float t x) =
+      by-length (λ F. readingBy hexFloat F (f .bias) ≡ none → ⊥) (fieldLength f) not-none not-none x (rw (type-is f (g .typed) 0x40 hexFloat (omega arith) refl t) at n)
   none-wrong n (reversed-float t b) =
       let e = type-is f (g .typed) 0x47 reversedFloat (omega arith) refl t in
-      in-table _ _ (fieldLength f) (sized (4 ∷ 8 ∷ []) (f .size) (rw e at (g .allowed))) (rw (e, b) at n)
+      by-length (λ F. readingBy reversedFloat F 0 ≡ none → ⊥) (fieldLength f) not-none not-none (sized (4 ∷ 8 ∷ []) (f .size) (rw e at (g .allowed))) (rw (e, b) at n)
   none-wrong n (R.float t b) =
       let e = type-is f (g .typed) 0x48 binaryFloat (omega arith) refl t in
-      in-table _ _ (fieldLength f) (sized (4 ∷ 8 ∷ []) (f .size) (rw e at (g .allowed))) (rw (e, b) at n)
+      by-length (λ F. readingBy binaryFloat F 0 ≡ none → ⊥) (fieldLength f) not-none not-none (sized (4 ∷ 8 ∷ []) (f .size) (rw e at (g .allowed))) (rw (e, b) at n)
 
   -- a field with a reading is one of these
   data Binary : (reversed : Bool) → Type 0 where
@@ -168,10 +165,12 @@ module _ (f : Field) (g : GoodField f) where
   none-float (hexadecimal-8 t l) v e = over-53 t l (as-sent (inl t)) (long-none (big v) (no-real (floatOf longHexadecimal (big v)) e))
   none-float (binary-4 {b = b} t z l) v e =
       let bits = big (ordered v b) in
-      above-254 (either t) l (binary-bits t v) (above shortBinary bits (short-binary bits) (no-real (floatOf shortBinary bits) e))
+      let h = above shortBinary bits (short-binary bits) (no-real (floatOf shortBinary bits) e) in
+      above-254 (either t) l (binary-bits t v) (omega (arith, h))
   none-float (binary-8 {b = b} t z l) v e =
       let bits = big (ordered v b) in
-      above-2046 (either t) l (binary-bits t v) (above longBinary bits (long-binary bits) (no-real (floatOf longBinary bits) e))
+      let h = above longBinary bits (long-binary bits) (no-real (floatOf longBinary bits) e) in
+      above-2046 (either t) l (binary-bits t v) (omega (arith, h))
 
   -- and there alone: the type codes that stand against each other,
   abbrev P : ℕ

@@ -25,7 +25,7 @@ use Rattle.fdoca.proofs.ValueRows.{of-table}
 use Rattle.numbers.specs.Whole.{wholeUpTo8}
 use Rattle.floats.specs.declared.Real as r
 use Rattle.floats.specs.Reals.{real}
-use Rattle.values.specs.Codes.{readingIf, readingFor, formatFor, ReadAs}
+use Rattle.values.specs.Codes.{readingIf, readingFor, hexadecimalFor, binaryFor, formatFor, ReadAs}
 
 -- 4 OR 8
 pub is-four : (F : ℕ) → F ≡ 4 → true ≡ elem F (4 ∷ 8 ∷ [])
@@ -96,21 +96,28 @@ module _ (p F b : ℕ) where
     not-binary n47 n48 = not-read (λ z. (n47, n48))
 
 -- THE FLOAT of 4 or 8 bytes
-module _ (s : List ℕ) (p bits : ℕ) (x : r.Real) (e : bits ≡ big (ordered s (eqb p 0x47))) where
-  in-format : (f : Format) → formatFor p (length s) ≡ f → x ≡ real (floatOf f bits) → x ≡ real (floatOf (formatFor p (length s)) (big (ordered s (eqb p 0x47))))
-  in-format f q h = h ∙ ap (λ b. real (floatOf f b)) e ∙ ap (λ g. real (floatOf g (big (ordered s (eqb p 0x47))))) (sym q)
+module _ (s : List ℕ) (b : Bool) (bits : ℕ) (x : r.Real) (e : bits ≡ big (ordered s b)) where
+  in-format : (f g : Format) → g ≡ f → x ≡ real (floatOf f bits) → x ≡ real (floatOf g (big (ordered s b)))
+  in-format f g q h = h ∙ ap (λ n. real (floatOf f n)) e ∙ ap (λ k. real (floatOf k (big (ordered s b)))) (sym q)
 
-  pub short-sixteen : p ≡ 0x40 → length s ≡ 4 → x ≡ real (floatOf shortHexadecimal bits) → x ≡ real (floatOf (formatFor p (length s)) (big (ordered s (eqb p 0x47))))
-  short-sixteen c l = in-format shortHexadecimal (unfold formatFor in rw (eq-eqb p 0x40 c, eq-eqb (length s) 4 l))
+  pub short-sixteen : length s ≡ 4 → x ≡ real (floatOf shortHexadecimal bits) → x ≡ real (floatOf (hexadecimalFor (length s)) (big (ordered s b)))
+  short-sixteen l = in-format shortHexadecimal (hexadecimalFor (length s)) (rw (eq-eqb (length s) 4 l))
 
-  pub long-sixteen : p ≡ 0x40 → (length s ≡ 4 → ⊥) → x ≡ real (floatOf longHexadecimal bits) → x ≡ real (floatOf (formatFor p (length s)) (big (ordered s (eqb p 0x47))))
-  long-sixteen c l = in-format longHexadecimal (unfold formatFor in rw (eq-eqb p 0x40 c, ne-eqb (length s) 4 l))
+  pub long-sixteen : (length s ≡ 4 → ⊥) → x ≡ real (floatOf longHexadecimal bits) → x ≡ real (floatOf (hexadecimalFor (length s)) (big (ordered s b)))
+  long-sixteen l = in-format longHexadecimal (hexadecimalFor (length s)) (rw (ne-eqb (length s) 4 l))
 
-  pub short-two : (p ≡ 0x40 → ⊥) → length s ≡ 4 → x ≡ real (floatOf shortBinary bits) → x ≡ real (floatOf (formatFor p (length s)) (big (ordered s (eqb p 0x47))))
-  short-two c l = in-format shortBinary (unfold formatFor in rw (ne-eqb p 0x40 c, eq-eqb (length s) 4 l))
+  pub short-two : length s ≡ 4 → x ≡ real (floatOf shortBinary bits) → x ≡ real (floatOf (binaryFor (length s)) (big (ordered s b)))
+  short-two l = in-format shortBinary (binaryFor (length s)) (rw (eq-eqb (length s) 4 l))
 
-  pub long-two : (p ≡ 0x40 → ⊥) → (length s ≡ 4 → ⊥) → x ≡ real (floatOf longBinary bits) → x ≡ real (floatOf (formatFor p (length s)) (big (ordered s (eqb p 0x47))))
-  long-two c l = in-format longBinary (unfold formatFor in rw (ne-eqb p 0x40 c, ne-eqb (length s) 4 l))
+  pub long-two : (length s ≡ 4 → ⊥) → x ≡ real (floatOf longBinary bits) → x ≡ real (floatOf (binaryFor (length s)) (big (ordered s b)))
+  long-two l = in-format longBinary (binaryFor (length s)) (rw (ne-eqb (length s) 4 l))
+
+module _ (s : List ℕ) (p : ℕ) (x : r.Real) where
+  pub of-sixteen : p ≡ 0x40 → x ≡ real (floatOf (hexadecimalFor (length s)) (big (ordered s false))) → x ≡ real (floatOf (formatFor p (length s)) (big (ordered s (eqb p 0x47))))
+  of-sixteen c h = h ∙ rw c
+
+  pub of-two : (p ≡ 0x40 → ⊥) → x ≡ real (floatOf (binaryFor (length s)) (big (ordered s (eqb p 0x47)))) → x ≡ real (floatOf (formatFor p (length s)) (big (ordered s (eqb p 0x47))))
+  of-two c h = h ∙ rw (ne-eqb p 0x40 c)
 
 -- THE READING that a code and a length have
 module _ (p F b : ℕ) (k : Reading) where
@@ -132,7 +139,7 @@ module _ (p F b : ℕ) (k : Reading) where
       go (inr (z, q)) = as-float c e l (ap (float (eqb c 0x47)) (n z) ∙ q)
 
   coded : readingFor p F b ≡ some k → Coded
-  unfolding readingBy formatFor
+  unfolding readingBy
   coded = go (lookup p types) refl
     where
       nothing : none ≡ some k → Coded

@@ -18,11 +18,14 @@ readingIf (some T) F bias = readingBy T F bias
 abbrev pub readingFor : (plain F bias : ℕ) → Option Reading
 readingFor plain F bias = readingIf (lookup plain types) F bias
 
-unfoldable pub formatFor : (plain F : ℕ) → Format
-formatFor plain F =
-    if eqb plain 0x40 then (if eqb F 4 then shortHexadecimal else longHexadecimal)
-    else if eqb F 4 then shortBinary
-    else longBinary
+abbrev pub hexadecimalFor : (F : ℕ) → Format
+hexadecimalFor F = if eqb F 4 then shortHexadecimal else longHexadecimal
+
+abbrev pub binaryFor : (F : ℕ) → Format
+binaryFor F = if eqb F 4 then shortBinary else longBinary
+
+abbrev pub formatFor : (plain F : ℕ) → Format
+formatFor plain F = if eqb plain 0x40 then hexadecimalFor F else binaryFor F
 
 -- The answer r is the value of the bytes s, or 23, however a field of that code and length is read.
 pub record ReadAs (plain : ℕ) (s : List ℕ) (start : ℕ) (r : Valued) : Type 0 where

@@ -1,6 +1,7 @@
 // The value of an item's bytes, whatever numeric type they have (document 02, Q-7): a whole number or a 64-bit float.
 ghost use mathlib.Core.Path.{_≡_};
 ghost use Prim.Native.Nat.{_≤_};
+ghost use mathlib.Core.Bool.{false};
 ghost use mathlib.Core.List.{[], _∷_};
 ghost use lib.ListN.{length};
 ghost use lib.Dec.{eqb};
@@ -8,7 +9,7 @@ ghost use Rattle.fdoca.specs.Basics.{isSome, elem, big, refuse, ok};
 ghost use Rattle.fdoca.specs.Float.{floatOf};
 ghost use Rattle.fdoca.specs.Calls.{ordered, valueAnswer};
 ghost use Rattle.floats.specs.Reals.{real};
-ghost use Rattle.values.specs.Codes.{readingFor, formatFor, ReadAs};
+ghost use Rattle.values.specs.Codes.{readingFor, hexadecimalFor, binaryFor, formatFor, ReadAs};
 use fdoca::Value;
 use fdoca::Valued;
 use floats::Real;
@@ -79,22 +80,39 @@ pub fn is_read(plain: u8, size: u64, bias: u64) -> bool
     false
 }
 
-// The float of 4 or 8 bytes.
-fn float_of(s: &[u8], plain: u8) -> Real
+// The float of a hexadecimal number of 4 or 8 bytes.
+fn hexadecimal_of(s: &[u8]) -> Real
     requires { ⌜ length (now s) ≤ 8 ⌝ }
-    ensures { λ r. ⌜ r ≡ real (floatOf (formatFor plain (length (now (s .entry)))) (big (ordered (now (s .entry)) (eqb plain 0x47)))) ⌝ }
+    ensures { λ r. ⌜ r ≡ real (floatOf (hexadecimalFor (length (now (s .entry)))) (big (ordered (now (s .entry)) false))) ⌝ }
 {
-    let bits = numbers::unsigned(s, plain == REVERSED_FLOAT);
-    if plain == HEXADECIMAL {
-        if s.len() == 4 {
-            return floats::short_hexadecimal(bits);
-        }
-        return floats::long_hexadecimal(bits);
+    let bits = numbers::unsigned(s, false);
+    if s.len() == 4 {
+        return floats::short_hexadecimal(bits);
     }
+    floats::long_hexadecimal(bits)
+}
+
+// The float of a binary number of 4 or 8 bytes.
+fn binary_of(s: &[u8], reversed: bool) -> Real
+    requires { ⌜ length (now s) ≤ 8 ⌝ }
+    ensures { λ r. ⌜ r ≡ real (floatOf (binaryFor (length (now (s .entry)))) (big (ordered (now (s .entry)) reversed))) ⌝ }
+{
+    let bits = numbers::unsigned(s, reversed);
     if s.len() == 4 {
         return floats::short_binary(bits);
     }
     floats::long_binary(bits)
+}
+
+// The float of 4 or 8 bytes, by the plain type code.
+fn float_of(s: &[u8], plain: u8) -> Real
+    requires { ⌜ length (now s) ≤ 8 ⌝ }
+    ensures { λ r. ⌜ r ≡ real (floatOf (formatFor plain (length (now (s .entry)))) (big (ordered (now (s .entry)) (eqb plain 0x47)))) ⌝ }
+{
+    if plain == HEXADECIMAL {
+        return hexadecimal_of(s);
+    }
+    binary_of(s, plain == REVERSED_FLOAT)
 }
 
 // Reads the bytes of a value that is read, by its plain type code; 23 at the item's start where there is no exact float.

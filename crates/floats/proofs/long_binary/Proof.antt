@@ -1,4 +1,5 @@
 use borrow.Author.Needs.{needs}
+use native.Mathlib.Omega.{arith}
 use Rattle.floats.proofs.Ways.{long-above, long-exact}
 use Rattle.floats.proofs.long_binary.Statement.{statement}
 use Rattle.floats.proofs.long_binary.Tie as tie
@@ -7,7 +8,7 @@ no-float-requires : tie.Need-no-float-requires
 no-float-requires c κs = search needs
 
 returns : tie.Need-returns
-returns c = search (needs, long-above)
+returns c = long-above _ _ (omega (arith, c .before .if1 .taken)) (c .no-float .ensures)
 
 binary-requires : tie.Need-binary-requires
 binary-requires c κs = search needs
