@@ -14,7 +14,7 @@ use lib.Ieee.Fits.{odd-fits}
 use lib.Ieee.Bits.{ofBits-fits, nanBits-is, toBits-ofBits}
 use borrow.Author.Tests.{lt-ltb, le-ltb, ltb-true, ltb-false, ne-eqb, eqb-false}
 use Rattle.fdoca.specs.Basics.{if_then_else_}
-use Rattle.fdoca.specs.Float.{Number, Equal, equalFloat, Format, shortHexadecimal, longHexadecimal, shortBinary, longBinary, isNegative, characteristic, fraction, binary, numberOf, floatOf}
+use Rattle.fdoca.specs.Float.{Equal, equalFloat, Format, shortHexadecimal, longHexadecimal, shortBinary, longBinary, isNegative, characteristic, fraction, binary, numberOf, floatOf}
 use Rattle.fdoca.specs.Reasons.{Over53}
 use Rattle.fdoca.proofs.Tests.{by-eq}
 use Rattle.fdoca.proofs.Floats.{is-equal-float, equal-float-is, worth-over, has-float, over-none}

@@ -13,7 +13,7 @@ use Rattle.fdoca.specs.FieldType.{packedDecimal, Size, bytes, digits}
 use Rattle.fdoca.specs.Item.{Field}
 use Rattle.fdoca.specs.Walk.{Note}
 use Rattle.fdoca.specs.Packed.{packedNumber}
-use Rattle.fdoca.specs.Calls.{itemAt, digitsOf, packed}
+use Rattle.fdoca.specs.Calls.{digitsOf, packed}
 use Rattle.fdoca.specs.Reasons.{HasType, OfState, BadDigit, OfPacked, state, wrong-kind, bad-digit}
 use Rattle.fdoca.proofs.Fields.{GoodField, digits-packed, packed-digits}
 use Rattle.fdoca.proofs.ItemRows.{type-is, has-type}

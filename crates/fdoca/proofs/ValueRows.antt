@@ -1,11 +1,11 @@
 -- The value call refuses for the first reason in order, 18 and then 23, and accepts where there is none.
 -- Assumes nothing.
-use mathlib.Core.Path.{_≡_, refl, sym, ap, _∙_}
+use mathlib.Core.Path.{_≡_, refl, sym}
 use mathlib.Core.Logic.{_⊎_, inl, inr}
-use Prim.Native.Nat.{ℕ, _+_, _/_, _%_, _^_, _≤_, _<_}
+use Prim.Native.Nat.{ℕ, _+_, _/_, _≤_, _<_}
 use native.Mathlib.Omega.{arith}
 use mathlib.Core.Bool.{Bool, true, false, _&&_, true≢false}
-use mathlib.Core.List.{List, [], _∷_, reverse}
+use mathlib.Core.List.{List, [], _∷_}
 use mathlib.Core.Option.{Option, none, some}
 use lib.Dec.{leb, eqb}
 use lib.Ieee.{Float}
@@ -18,7 +18,7 @@ use Rattle.fdoca.specs.Item.{Field, fieldLength}
 use Rattle.fdoca.specs.Float.{Format, shortHexadecimal, longHexadecimal, shortBinary, longBinary, characteristic, floatOf}
 use Rattle.fdoca.specs.Calls.{Reading, whole, float, readingBy, readingOf, ordered, real, readBy, value}
 use Rattle.fdoca.specs.Reasons as R
-use Rattle.fdoca.specs.Reasons.{OneOf, here, there, HasType, Numeric, whole-number, reversed-whole-number, hexadecimal-float, reversed-float, Bits, as-sent, byte-reversed, Over53, NoExactFloat, above-254, above-2046, over-53, OfState, OfValue, state, wrong-kind, no-exact-float}
+use Rattle.fdoca.specs.Reasons.{OneOf, here, there, HasType, Numeric, whole-number, reversed-whole-number, hexadecimal-float, reversed-float, Bits, as-sent, byte-reversed, NoExactFloat, above-254, above-2046, over-53, OfState, OfValue, state, wrong-kind, no-exact-float}
 use Rattle.fdoca.proofs.Tests.{and-left, and-right}
 use Rattle.fdoca.proofs.Fields.{GoodField}
 use Rattle.fdoca.proofs.TypeRows.{elem-in, plainCode}

@@ -11,16 +11,15 @@ use lib.Dec.{eqb}
 use lib.IntN.{ℤ}
 use lib.Ieee.{Float}
 use lib.ListN.{length}
-use borrow.Author.Tests.{eq-eqb, ne-eqb, eqb-true, eqb-false, le-leb}
-use Rattle.fdoca.specs.declared.Value.{Value}
+use borrow.Author.Tests.{eq-eqb, ne-eqb, le-leb}
 use Rattle.fdoca.specs.declared.Value.the-variants.{Whole, Real}
 use Rattle.fdoca.specs.declared.Valued.{Valued}
 use Rattle.fdoca.specs.Basics.{if_then_else_, elem, lookup, isSome, big, refuse, ok, the}
 use Rattle.fdoca.specs.FieldType.{FieldType, fixedBytes, variableBytes, terminatedBytes, shortBytes, integer, reversedInteger, packedDecimal, hexFloat, reversedFloat, binaryFloat, types}
 use Rattle.fdoca.specs.Float.{Format, shortHexadecimal, longHexadecimal, shortBinary, longBinary, floatOf}
 use Rattle.fdoca.specs.Calls as calls
-use Rattle.fdoca.specs.Calls.{Reading, whole, float, readingBy, ordered, signed, readBy, valueAnswer}
-use Rattle.fdoca.proofs.TypeRows.{plainCode, plain-code}
+use Rattle.fdoca.specs.Calls.{Reading, whole, float, readingBy, ordered, readBy, valueAnswer}
+use Rattle.fdoca.proofs.TypeRows.{plain-code}
 use Rattle.fdoca.proofs.ValueRows.{of-table}
 use Rattle.numbers.specs.Whole.{wholeUpTo8}
 use Rattle.floats.specs.declared.Real as r
