@@ -1,6 +1,7 @@
 use mathlib.Core.Path.{_≡_}
-use Prim.Native.Nat.{_+_, _-_, _*_, _^_, _≤_, _<_}
+use Prim.Native.Nat.{_+_, _-_, _*_, _%_, _^_, _≤_, _<_}
 use borrow.Author.Needs.{needs}
+use native.Mathlib.Omega.{arith}
 use Rattle.floats.proofs.Shifts.{right-more, right-less, right-room, right-most, narrow-odd, narrow-small}
 use Rattle.floats.proofs.shifted_right.Statement.{statement}
 use Rattle.floats.proofs.shifted_right.Tie as tie
@@ -16,7 +17,9 @@ loop-holds : tie.Need-loop-holds Inv-loop μ-loop
 loop-holds c = search needs
 
 returns : tie.Need-returns Inv-loop μ-loop
-returns c = search (needs, right-most, narrow-odd)
+returns c =
+    let o : c .before .before .loop .q % 2 ≡ 1 = omega (arith, c .if1 .taken) in
+    search (needs, right-most, narrow-odd, o)
 
 add-p : tie.Need-add-p Inv-loop μ-loop
 add-p c = search (needs, right-most)
