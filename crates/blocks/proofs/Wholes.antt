@@ -20,7 +20,7 @@ use Rattle.fdoca.specs.FieldType.{FieldType, fixedBytes, variableBytes, termina
 use Rattle.fdoca.specs.Walk.{Note}
 use Rattle.fdoca.specs.Calls.{itemAt, valueOf, wholeOf, wholeNumber, wholeAnswer}
 use Rattle.fdoca.proofs.TypeRows.{plainCode, same-plain}
-use Rattle.fdoca.proofs.ValueRows.{sized, at-most}
+use Rattle.fdoca.proofs.ValueRows.{sized, one-below}
 use Rattle.numbers.specs.Whole.{wholeUpTo8}
 use Rattle.numbers.proofs.Whole.{read-integer, read-reversed}
 use Rattle.walks.specs.declared.Found.{Found}
@@ -33,7 +33,7 @@ wholly z = record { number = 0; place = 0; null = false; value = z }
 
 -- the field lengths of whole numbers
 eight : (z : Size) → allows (oneOf (2 ∷ 4 ∷ 8 ∷ [])) z ≡ true → inBytes z ≤ 8
-eight z h = at-most (inBytes z) 8 (2 ∷ 4 ∷ 8 ∷ []) refl (sized (2 ∷ 4 ∷ 8 ∷ []) z h)
+eight z h = let l : inBytes z < 9 = one-below (inBytes z) 9 (2 ∷ 4 ∷ 8 ∷ []) refl (sized (2 ∷ 4 ∷ 8 ∷ []) z h) in omega arith
 
 -- the types that have no whole number
 not-whole : (T : FieldType) (bs : List ℕ) → (plainCode T ≡ 0x23 → ⊥) → (plainCode T ≡ 0x24 → ⊥) → wholeOf T bs ≡ none

@@ -1,4 +1,5 @@
-// The calls on a descriptor and its data: list the items, tell an item's state, lend its value, read a whole number, a packed decimal or any numeric value.
+// The calls on a descriptor and its data: list the items, tell an item's state, lend its value, read a whole number, a packed
+// decimal, or a value that is whole or a float.
 ghost use mathlib.Core.Path.{_≡_};
 ghost use Prim.Native.Nat.{_+_, _≤_};
 ghost use mathlib.Core.Bool.{not, _&&_};

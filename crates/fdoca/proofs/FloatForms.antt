@@ -8,7 +8,8 @@ use mathlib.Core.Bool.{Bool, true, false, not}
 use mathlib.Core.Option.{Option, some, none}
 use lib.Dec.{T, ltb, eqb, eqb·suc-zero}
 use lib.Pow.{pow-mono, shl-lt}
-use lib.Ieee.{Float, binary64, fits, ofBits, ofFields, toBits, nanBits, minus}
+use lib.IntN.{pos}
+use lib.Ieee.{Float, fin, binary64, fits, odd, ofBits, ofFields, toBits, nanBits, minus}
 use lib.Ieee.Exact.{HasValue, odd-sign}
 use lib.Ieee.Fits.{odd-fits}
 use lib.Ieee.Bits.{ofBits-fits, nanBits-is, toBits-ofBits}
@@ -16,7 +17,7 @@ use borrow.Author.Tests.{lt-ltb, le-ltb, ltb-true, ltb-false, ne-eqb, eqb-false}
 use Rattle.fdoca.specs.Basics.{if_then_else_}
 use Rattle.fdoca.specs.Float.{Equal, equalFloat, Format, shortHexadecimal, longHexadecimal, shortBinary, longBinary, isNegative, characteristic, fraction, binary, numberOf, floatOf}
 use Rattle.fdoca.specs.Reasons.{Over53}
-use Rattle.fdoca.proofs.Tests.{by-eq}
+use Rattle.fdoca.proofs.Tests.{by-eq, at-least}
 use Rattle.fdoca.proofs.Floats.{is-equal-float, equal-float-is, worth-over, has-float, over-none}
 
 -- what is below 2 ^ 53, times a power that is not too high, is in the range of 64-bit floats
@@ -54,7 +55,12 @@ float-is f bits v e = go (ltb (f .maximum) (characteristic f bits)) refl
 pub is-float : (f : Format) (bits : ℕ) (v : Float) → characteristic f bits ≤ f .maximum → T (fits binary64 v) → Equal v (numberOf f bits) → floatOf f bits ≡ some v
 is-float f bits v h t e = in-range f bits h ∙ is-equal-float (numberOf f bits) v t e
 
--- THE BITS of a 64-bit float: three fields with the characteristic in range
+-- THE BITS of a 64-bit float: those of the literal 0.0;
+pub zero-is : ofBits binary64 0 ≡ fin false 0 (pos 0)
+unfolding ofBits ofFields odd
+zero-is = refl
+
+-- three fields with the characteristic in range
 pub fields-value : (s : Bool) (x t : ℕ) → x ≤ 2046 → HasValue (ofFields binary64 s x t) s (if eqb x 0 then t * 2 ^ 0 else (2 ^ 52 + t) * 2 ^ (x - 1)) (2 ^ 1074)
 unfolding ofFields
 fields-value s zero t l = odd-sign 53 s t 0 1074
@@ -150,9 +156,6 @@ short-hexadecimal bits =
     let (v, e) = has-float s t (4 * c) 280 (4 * c + 794) (omega arith) t 0 (omega arith) (once t) (in-reach 24 (4 * c + 794) l (omega arith)) in
     (v, in-range shortHexadecimal bits h ∙ e)
 
-not-below : (a b : ℕ) → (b < a → ⊥) → a ≤ b
-not-below a b h = omega (arith, h)
-
 -- A long one has none exactly where its fraction has more than 53 significant bits.
 pub long-over : (bits : ℕ) → Over53 (bits % 2 ^ 56) → floatOf longHexadecimal bits ≡ none
 unfolding numberOf fraction
@@ -166,7 +169,7 @@ long-none bits n q r e =
     let t = bits % 2 ^ 56 in
     let l : t < 2 ^ 56 = omega arith in
     let h : c ≤ 127 = long-seven bits in
-    not-below (2 ^ 53) q (λ k. let (v, g) = has-float s t (4 * c) 312 (4 * c + 762) (omega arith) q r k e (in-reach 56 (4 * c + 762) l (omega arith)) in
+    at-least (2 ^ 53) q (λ k. let (v, g) = has-float s t (4 * c) 312 (4 * c + 762) (omega arith) q r k e (in-reach 56 (4 * c + 762) l (omega arith)) in
     let x : some v ≡ none = sym g ∙ sym (in-range longHexadecimal bits h) ∙ n in
     let z : _≡_ {A = ℕ} 0 1 = cc in
     let w : ⊥ = omega arith in w)

@@ -1,8 +1,8 @@
 -- A number and the 64-bit floats: of all floats at most one equals it, its canonical form; and where there is one.
 -- Assumes nothing.
-use mathlib.Core.Path.{_≡_, refl, sym, ap, _∙_, subst}
+use mathlib.Core.Path.{_≡_, refl, sym, ap, _∙_}
 use Prim.Native.Nat.{ℕ, zero, suc, _+_, _-_, _*_, _/_, _%_, _^_, _<_, _≤_}
-use native.Mathlib.Nat.{pow-suc, pow-succ', zero-lt-suc, zero-mul, mul-assoc, mul-right-comm, mul-le-mul-left, mul-pos, div-one, div-div-eq-div-mul, div-lt-iff-lt-mul, eq-of-mul-eq-mul-right, lt-irrefl}
+use native.Mathlib.Nat.{pow-suc, zero-lt-suc, zero-mul, one-mul, mul-one, mul-assoc, mul-right-comm, mul-le-mul-left, mul-pos, mul-div-cancel, eq-of-mul-eq-mul-right}
 use native.Mathlib.Omega.{arith}
 use mathlib.Core.Bool.{Bool, true, false, _&&_}
 use mathlib.Core.Option.{Option, some, none}
@@ -27,7 +27,7 @@ Written (inf s) = ⊥
 Written (fin s zero e) = e ≡ pos 0
 Written (fin s (suc m) e) = suc m % 2 ≡ 1
 
-doubled : (m a : ℕ) → m * 2 ^ suc a ≡ m * 2 ^ a * 2
+pub doubled : (m a : ℕ) → m * 2 ^ suc a ≡ m * 2 ^ a * 2
 doubled m a = rw pow-suc (sym (mul-assoc m (2 ^ a) 2))
 
 -- an odd number times a power of two is so in one way
@@ -67,7 +67,7 @@ crossed m U D n W F N P p h k =
     ∙ ap (λ (t : ℕ). t * P) (mul-assoc n W D))
 
 no-zero : (m a : ℕ) → suc m * 2 ^ a ≡ 0 → ⊥
-no-zero m a h = lt-irrefl 0 (subst (λ (x : ℕ). 0 < x) h (mul-pos (zero-lt-suc m) (pow-pos a)))
+no-zero m a h = let k : 0 < suc m * 2 ^ a = mul-pos (zero-lt-suc m) (pow-pos a) in omega arith
 
 same : (s t u : Bool) (m n : ℕ) (e g : ℤ) → Written (fin s m e) → Written (fin t n g) → s ≡ u → t ≡ u → m * 2 ^ (ups e + downs g) ≡ n * 2 ^ (ups g + downs e) → fin s m e ≡ fin t n g
 same s t u zero zero e g w x p q h = λ i. fin ((p ∙ sym q) i) zero ((w ∙ sym x) i)
@@ -91,48 +91,48 @@ flat (pos zero) h = refl
 flat (pos (suc k)) h = absurd (let z : ⊥ = omega (arith, pow-suc 2 k) in z)
 flat (negsuc k) h = absurd (let z : ⊥ = omega (arith, pow-suc 2 k) in z)
 
-fits-written : (x : Float) (s : Bool) (a c : ℕ) → T (fits binary64 x) → HasValue x s a c → Written x
+fits-says : (s : Bool) (m : ℕ) (e : ℤ) → T (fits binary64 (fin s (suc m) e)) → (suc m % 2 ≡ 1) × (suc m < 2 ^ 53)
 unfolding fits
-fits-written (fin s zero e) t a c f h = flat e (eqb→eq (up e * down e) 1 f)
-fits-written (fin s (suc m) e) t a c f h =
+fits-says s m e t =
     let A = eqb (suc m % 2) 1 in
     let B = ltb (suc m) (2 ^ 53) in
     let C = leb (down e) (2 ^ low binary64) in
     let D = ltb (suc m * up e) (2 ^ suc (emax binary64) * down e) in
-    eqb→eq (suc m % 2) 1 (and-l A B (and-l (A && B) C (and-l (A && B && C) D f)))
+    let both : T (A && B) = and-l (A && B) C (and-l (A && B && C) D t) in
+    (eqb→eq (suc m % 2) 1 (and-l A B both), ltb→lt (suc m) (2 ^ 53) (and-r A B both))
+
+fits-written : (x : Float) (s : Bool) (a c : ℕ) → T (fits binary64 x) → HasValue x s a c → Written x
+fits-written (fin s zero e) t a c f h = flat e (eqb→eq (up e * down e) 1 (unfold fits in f))
+fits-written (fin s (suc m) e) t a c f h = fits-says s m e f .0
 
 fits-small : (s : Bool) (m : ℕ) (e : ℤ) → T (fits binary64 (fin s m e)) → m < 2 ^ 53
-unfolding fits
 fits-small s zero e t = omega arith
-fits-small s (suc m) e t =
-    let A = eqb (suc m % 2) 1 in
-    let B = ltb (suc m) (2 ^ 53) in
-    let C = leb (down e) (2 ^ low binary64) in
-    let D = ltb (suc m * up e) (2 ^ suc (emax binary64) * down e) in
-    ltb→lt (suc m) (2 ^ 53) (and-r A B (and-l (A && B) C (and-l (A && B && C) D t)))
+fits-small s (suc m) e t = fits-says s m e t .1
 
 -- THE CANONICAL FORM is written so
 
-half-pos : (q : ℕ) → 0 < q → q % 2 ≡ 0 → 0 < q / 2
-half-pos q h e = omega arith
+-- a number above 0 is an odd one times 2 to the power of its closing zeros
+record OddPart (q t : ℕ) : Type 0 where
+  part : ℕ
+  is-odd : part % 2 ≡ 1
+  whole : q ≡ part * 2 ^ t
 
-is-one : (q r : ℕ) → q % 2 ≡ suc r → q % 2 ≡ 1
-is-one q r e = omega arith
-
-none-below-one : (q : ℕ) → 0 < q → q < 1 → ⊥
-none-below-one q h k = omega arith
+odd-part : (d q : ℕ) → 0 < q → q < 2 ^ d → OddPart q (trailingZeros d q)
+unfolding trailingZeros
+odd-part zero q h k = absurd (let z : ⊥ = omega arith in z)
+odd-part (suc d) q h k = go (q % 2) refl (λ l. odd-part d (q / 2) l (omega (arith, pow-suc 2 d)))
+  where
+    go : (r : ℕ) → q % 2 ≡ r → (0 < q / 2 → OddPart (q / 2) (trailingZeros d (q / 2))) → OddPart q (under r (trailingZeros d (q / 2)))
+    go zero e half =
+        let x = half (omega arith) in
+        record { part = x .part; is-odd = x .is-odd; whole = omega (arith, x .whole, doubled (x .part) (trailingZeros d (q / 2))) }
+    go (suc r) e half = record { part = q; is-odd = omega arith; whole = omega arith }
 
 without-zeros : (d q : ℕ) → 0 < q → q < 2 ^ d → q / 2 ^ trailingZeros d q % 2 ≡ 1
-unfolding trailingZeros
-without-zeros zero q h k = absurd (none-below-one q h k)
-without-zeros (suc d) q h k =
-    go (q % 2) refl (λ (e : q % 2 ≡ 0). without-zeros d (q / 2) (half-pos q h e) (div-lt-iff-lt-mul (zero-lt-suc 1) .1 (subst (λ (x : ℕ). q < x) (pow-suc 2 d) k)))
-  where
-    go : (r : ℕ) → q % 2 ≡ r → (q % 2 ≡ 0 → q / 2 / 2 ^ trailingZeros d (q / 2) % 2 ≡ 1) → q / 2 ^ under r (trailingZeros d (q / 2)) % 2 ≡ 1
-    go zero e ih =
-        let t = trailingZeros d (q / 2) in
-        ap (λ (x : ℕ). x % 2) (ap (λ (x : ℕ). q / x) (pow-succ' 2 t) ∙ sym (div-div-eq-div-mul q 2 (2 ^ t))) ∙ ih e
-    go (suc r) e ih = ap (λ (x : ℕ). x % 2) (div-one q) ∙ is-one q r e
+without-zeros d q h k =
+    let x = odd-part d q h k in
+    let t = trailingZeros d q in
+    ap (λ n. n / 2 ^ t % 2) (x .whole) ∙ ap (λ n. n % 2) (mul-div-cancel (x .part) (pow-pos t)) ∙ x .is-odd
 
 odd-form : (s : Bool) (m : ℕ) (e : ℤ) → m % 2 ≡ 1 → Written (fin s m e)
 odd-form s zero e o = absurd (let z : ⊥ = omega arith in z)
@@ -210,15 +210,9 @@ none-equals n e x f h = let k = is-equal-float n x f h in let z : _≡_ {A = ℕ
 
 -- a / c = b / d, where x has the value a / c
 rescaled : (x : Float) (s : Bool) (a c b d : ℕ) → 0 < c → a * d ≡ b * c → HasValue x s a c → HasValue x s b d
-rescaled (fin t m e) s a c b d p h (v, w) = (
-  v,
-  eq-of-mul-eq-mul-right c p (m * up e * d) (b * down e)
-      (mul-right-comm (m * up e) d c
-      ∙ ap (λ (x : ℕ). x * d) w
-      ∙ mul-right-comm a (down e) d
-      ∙ ap (λ (x : ℕ). x * down e) h
-      ∙ mul-right-comm b c (down e)),
-)
+rescaled (fin t m e) s a c b d p h (v, w) =
+    let k : b * 1 * c ≡ a * d = rw mul-one (sym h) in
+    (v, mul-assoc m (up e) d ∙ crossed m (up e) (down e) b 1 d a c p w k ∙ ap (λ n. b * n) (one-mul (down e)))
 
 -- m times 2 to the a - l is m * 2 ^ p / 2 ^ 1074
 module _ (s : Bool) (m a l p : ℕ) (at : p + l ≡ a + 1074) where

@@ -39,6 +39,10 @@ by-order {P} a b f g h = go (ltb a b) (ltb b a) refl refl
     go false true t u = h (ltb-true b a u)
     go false false t u = g (omega (arith, ltb-false a b t, ltb-false b a u))
 
+-- what is not below is at least as large
+pub at-least : (a b : ℕ) → (b < a → ⊥) → a ≤ b
+at-least a b h = omega (arith, h)
+
 -- both parts of a test that holds
 pub and-true : (b : Bool) → (b && true) ≡ b
 and-true true = refl

@@ -3,18 +3,20 @@
 use mathlib.Core.Path.{_≡_, refl, sym}
 use mathlib.Core.Logic.{_⊎_, inl, inr}
 use Prim.Native.Nat.{ℕ, _+_, _/_, _≤_, _<_}
+use native.Mathlib.Nat.{lt-of-not-le}
 use native.Mathlib.Omega.{arith}
-use mathlib.Core.Bool.{Bool, true, false, _&&_, true≢false}
+use mathlib.Core.Bool.{Bool, true, false, true≢false}
 use mathlib.Core.List.{List, [], _∷_}
 use mathlib.Core.Option.{Option, none, some}
-use lib.Dec.{leb, eqb}
+use lib.Dec.{ltb, eqb}
 use lib.Ieee.{Float}
-use borrow.Author.Tests.{eqb-true, leb-true}
+use borrow.Author.Tests.{eqb-true, ltb-true}
 use Rattle.fdoca.specs.declared.Value.{Value}
 use Rattle.fdoca.specs.declared.Value.the-variants.{Null}
 use Rattle.fdoca.specs.Basics.{if_then_else_, lookup, big}
 use Rattle.fdoca.specs.FieldType.{FieldType, fixedBytes, variableBytes, terminatedBytes, shortBytes, integer, reversedInteger, packedDecimal, hexFloat, reversedFloat, binaryFloat, plain, fixed, Size, bytes, digits, inBytes, oneOf, allows, ruleOf}
 use Rattle.fdoca.specs.Item.{Field, fieldLength}
+use Rattle.fdoca.specs.Packed.{allBelow}
 use Rattle.fdoca.specs.Float.{Format, shortHexadecimal, longHexadecimal, shortBinary, longBinary, characteristic, floatOf}
 use Rattle.fdoca.specs.Calls.{Reading, whole, float, readingBy, readingOf, ordered, real, readBy, value}
 use Rattle.fdoca.specs.Reasons as R
@@ -27,10 +29,6 @@ use Rattle.fdoca.proofs.FloatForms.{above-maximum, short-binary, long-b
 use Rattle.fdoca.proofs.FirstReasons.{Told, Either, told-as}
 use Rattle.fdoca.proofs.ReadRows as read
 
-abbrev pub allAtMost : (m : ℕ) → List ℕ → Bool
-allAtMost m [] = true
-allAtMost m (n ∷ ns) = leb n m && allAtMost m ns
-
 abbrev FourOrEight : ℕ → Type 0
 FourOrEight F = OneOf F (4 ∷ 8 ∷ [])
 
@@ -39,9 +37,9 @@ pub sized : (ns : List ℕ) (z : Size) → allows (oneOf ns) z ≡ true → OneO
 sized ns (bytes F) h = elem-in F ns h
 sized ns (digits p q) h = absurd (true≢false (sym h))
 
-pub at-most : (n m : ℕ) (ns : List ℕ) → allAtMost m ns ≡ true → OneOf n ns → n ≤ m
-at-most n m (k ∷ ns) h (here e) = rw e (leb-true k m (and-left (leb k m) (allAtMost m ns) h))
-at-most n m (k ∷ ns) h (there o) = at-most n m ns (and-right (leb k m) (allAtMost m ns) h) o
+pub one-below : (n m : ℕ) (ns : List ℕ) → allBelow m ns ≡ true → OneOf n ns → n < m
+one-below n m (k ∷ ns) h (here e) = rw e (ltb-true k m (and-left (ltb k m) (allBelow m ns) h))
+one-below n m (k ∷ ns) h (there o) = one-below n m ns (and-right (ltb k m) (allBelow m ns) h) o
 
 by-length : (P : ℕ → Type 0) (F : ℕ) → P 4 → P 8 → FourOrEight F → P F
 by-length P F a b (here q) = rw q a
@@ -149,11 +147,8 @@ module _ (f : Field) (g : GoodField f) where
   no-real none e = refl
   no-real (some v) e = absurd (let z : _≡_ {A = ℕ} 0 1 = cc in let w : ⊥ = omega arith in w)
 
-  not-most : (a b : ℕ) → (b ≤ a → ⊥) → a < b
-  not-most a b k = omega (arith, k)
-
   above : (F : Format) (bits : ℕ) → ((characteristic F bits ≤ F .maximum) → (v : Float) × (floatOf F bits ≡ some v)) → floatOf F bits ≡ none → F .maximum < characteristic F bits
-  above F bits h n = not-most (F .maximum) (characteristic F bits) (λ l. let (v, e) = h l in let z : _≡_ {A = ℕ} 0 1 = cc in omega arith)
+  above F bits h n = lt-of-not-le (λ (l : characteristic F bits ≤ F .maximum). let (v, e) = h l in let z : _≡_ {A = ℕ} 0 1 = cc in omega arith)
 
   none-float : {r : Reading} → Read r → (v : List ℕ) → readBy r v ≡ none → NoExactFloat f v
   unfolding readBy ordered characteristic
@@ -255,7 +250,7 @@ unfolding ruleOf
 at-most-8 f g r e = go (read-is f g r e)
   where
     of-whole : (T : FieldType) → f .type ≡ T → ruleOf T .sizes ≡ oneOf (2 ∷ 4 ∷ 8 ∷ []) → fieldLength f ≤ 8
-    of-whole T t z = at-most (fieldLength f) 8 (2 ∷ 4 ∷ 8 ∷ []) refl (sized (2 ∷ 4 ∷ 8 ∷ []) (f .size) (rw (t, z) at (g .allowed)))
+    of-whole T t z = let l : fieldLength f < 9 = one-below (fieldLength f) 9 (2 ∷ 4 ∷ 8 ∷ []) refl (sized (2 ∷ 4 ∷ 8 ∷ []) (f .size) (rw (t, z) at (g .allowed))) in omega arith
 
     go : {r : Reading} → Read f g r → fieldLength f ≤ 8
     go (as-whole (inl t)) = of-whole integer (type-is f (g .typed) 0x23 integer (omega arith) refl t) refl

@@ -3,16 +3,16 @@
 use mathlib.Core.Path.{_≡_, refl, sym, ap, _∙_}
 use Prim.Native.Nat.{ℕ, _+_, _*_, _/_, _%_, _≤_, _<_}
 use native.Mathlib.Omega.{arith}
-use mathlib.Core.Bool.{Bool, true, false, _&&_, true≢false}
-use mathlib.Core.List.{List, [], _∷_}
+use mathlib.Core.Bool.{true, false, _&&_, true≢false}
 use mathlib.Core.Option.{some}
-use lib.Dec.{leb, ltb, eqb, lit≤, lit<}
-use borrow.Author.Tests.{ltb-true, leb-true, eqb-true, ne-eqb}
-use Rattle.fdoca.specs.Basics.{if_then_else_, elem}
+use lib.Dec.{leb, eqb, lit≤, lit<}
+use borrow.Author.Tests.{leb-true, ne-eqb}
 use Rattle.fdoca.specs.Packed.{allBelow}
 use Rattle.fdoca.specs.FieldType.{FieldType, fixedBytes, variableBytes, terminatedBytes, shortBytes, integer, reversedInteger, packedDecimal, hexFloat, reversedFloat, binaryFloat, typeOf, Layout, fixed, Size, bytes, digits, inBytes, Sizes, upTo, oneOf, digitsUpTo, sizeOf, allows, ruleOf}
 use Rattle.fdoca.specs.Item.{Field, fieldLength}
 use Rattle.fdoca.proofs.Tests.{and-left, and-right}
+use Rattle.fdoca.proofs.TypeRows.{elem-in}
+use Rattle.fdoca.proofs.ValueRows.{one-below}
 use Rattle.field_types.specs.Rows.{prefixOf, formOf, ruleFor}
 use Rattle.field_types.specs.Parameters.{layoutNumber, sizeNumber}
 use Rattle.field_types.proofs.Rows.{prefix-below-4}
@@ -43,15 +43,6 @@ small-sizes hexFloat = refl
 small-sizes reversedFloat = refl
 small-sizes binaryFloat = refl
 
-one-below : (F m : ℕ) (ns : List ℕ) → allBelow m ns ≡ true → elem F ns ≡ true → F < m
-one-below F m [] b h = absurd (true≢false (sym h))
-one-below F m (n ∷ ns) b h =
-    go (eqb F n) refl h (λ k. one-below F m ns (and-right (ltb n m) (allBelow m ns) b) k)
-  where
-    go : (x : Bool) → eqb F n ≡ x → (if x then true else elem F ns) ≡ true → (elem F ns ≡ true → F < m) → F < m
-    go true e k ih = rw (eqb-true F n e) (ltb-true n m (and-left (ltb n m) (allBelow m ns) b))
-    go false e k ih = ih k
-
 -- a size is of the kind that a type has, and its number is one of two bytes
 abbrev pub InTwo : Sizes → Size → Type 0
 InTwo (upTo n) (bytes F) = F < 65536
@@ -80,7 +71,7 @@ of-bytes-bounded z F two l = record { in-two = two; number-small = l; length-sma
 bounded-by : (z : Sizes) (l : Layout) (size : Size) → Small z l → allows z size ≡ true → Bounded z size
 unfolding digitsPart
 bounded-by (upTo n) l (bytes F) k h = let m : F < 65536 = omega (arith, leb-true F n h) in of-bytes-bounded (upTo n) F m m
-bounded-by (oneOf ns) l (bytes F) k h = let m : F < 65536 = one-below F 65536 ns k h in of-bytes-bounded (oneOf ns) F m m
+bounded-by (oneOf ns) l (bytes F) k h = let m : F < 65536 = one-below F 65536 ns k (elem-in F ns h) in of-bytes-bounded (oneOf ns) F m m
 bounded-by (digitsUpTo n) l (digits p q) (m, _) h =
     let low : (leb 1 p && leb p n) ≡ true = and-left (leb 1 p && leb p n) (leb q p) h in
     let a : p ≤ n = leb-true p n (and-right (leb 1 p) (leb p n) low) in

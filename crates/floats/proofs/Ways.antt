@@ -2,26 +2,26 @@
 -- Assumes nothing.
 use mathlib.Core.Path.{_≡_, refl, sym, ap, _∙_, subst}
 use Prim.Native.Nat.{ℕ, zero, suc, _+_, _-_, _*_, _/_, _%_, _^_, _<_, _≤_}
-use native.Mathlib.Nat.{zero-mul, pow-suc, mul-assoc, mul-le-mul-left}
+use native.Mathlib.Nat.{zero-mul, mul-assoc, mul-le-mul-left}
 use native.Mathlib.Omega.{arith}
 use mathlib.Core.Bool.{Bool, true, false, not}
 use mathlib.Core.Option.{some, none}
 use lib.Dec.{T, leb, eqb}
-use lib.Ieee.{Float, binary64, odd, minus, ofBits, ofFields, nanBits}
+use lib.Ieee.{Float, binary64, minus, ofBits, ofFields, nanBits}
 use lib.Ieee.Exact.{HasValue}
 use borrow.Author.Tests.{le-leb, lt-leb, eq-eqb, ne-eqb, eqb-false}
 use lib.Pow.{pow-add, pow-pos}
 use Rattle.fdoca.specs.Basics.{if_then_else_}
 use Rattle.fdoca.specs.Float.{Equal, equalFloat, shortHexadecimal, longHexadecimal, shortBinary, longBinary, isNegative, characteristic, fraction, numberOf, floatOf}
-use Rattle.fdoca.proofs.Floats.{is-equal-float, number, worth-over, over-none}
-use Rattle.fdoca.proofs.FloatForms.{in-range, above-maximum, is-float, fields-value, fields-fit}
+use Rattle.fdoca.proofs.Tests.{at-least}
+use Rattle.fdoca.proofs.Floats.{doubled, is-equal-float, number, worth-over, over-none}
+use Rattle.fdoca.proofs.FloatForms.{in-range, above-maximum, is-float, zero-is, fields-value, fields-fit}
 use Rattle.floats.specs.declared.Real.{Real}
 use Rattle.floats.specs.Reals.{real, Units, Given, exact, over, Narrow, significandBy, powerBy}
 
 -- NO FLOAT: the literal 0.0
 pub no-real : (x : Real) → x ≡ record { given = false; value = ofBits binary64 0 } → x ≡ real none
-unfolding ofBits ofFields odd
-no-real x e = e
+no-real x e = e ∙ rw zero-is
 
 -- THE PATTERN of a sign, a characteristic and a fraction
 module _ (s : Bool) (x t b : ℕ) (sign : leb (2 ^ 63) b ≡ s) (field : b % 2 ^ 63 / 2 ^ 52 ≡ x) (digits : b % 2 ^ 52 ≡ t) where
@@ -120,16 +120,8 @@ odd-least : (m q a b : ℕ) → m < q → q % 2 ≡ 1 → m * 2 ^ a ≡ q * 2 ^ 
 odd-least m q zero b l o e =
     let k : q * 1 ≤ q * 2 ^ b = mul-le-mul-left q (pow-pos b) in
     let z : ⊥ = omega arith in z
-odd-least m q (suc a) zero l o e =
-    let k : m * 2 ^ suc a ≡ m * 2 ^ a * 2 = rw pow-suc (sym (mul-assoc m (2 ^ a) 2)) in
-    let z : ⊥ = omega arith in z
-odd-least m q (suc a) (suc b) l o e =
-    let k : m * 2 ^ suc a ≡ m * 2 ^ a * 2 = rw pow-suc (sym (mul-assoc m (2 ^ a) 2)) in
-    let h : q * 2 ^ suc b ≡ q * 2 ^ b * 2 = rw pow-suc (sym (mul-assoc q (2 ^ b) 2)) in
-    odd-least m q a b l o (omega arith)
-
-at-least : (a b : ℕ) → (b < a → ⊥) → a ≤ b
-at-least a b h = omega (arith, h)
+odd-least m q (suc a) zero l o e = omega (arith, doubled m a)
+odd-least m q (suc a) (suc b) l o e = odd-least m q a b l o (omega (arith, doubled m a, doubled q b))
 
 module _ (s : Bool) (m p q r : ℕ) (same : q * 2 ^ r ≡ m * 2 ^ p) where
   pub too-long : (x : Real) → Narrow q → 2 ^ 53 ≤ q → x ≡ real none → Given s m p x

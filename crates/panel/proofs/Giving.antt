@@ -4,8 +4,8 @@ use Prim.Native.Nat.{ℕ, _+_, _≤_}
 use mathlib.Core.Path.{_≡_, _∙_, refl, ap}
 use mathlib.Core.Bool.{Bool, true, false}
 use mathlib.Core.List.{List}
-use lib.IntN.{ℤ, pos}
-use lib.Ieee.{Float, fin, binary64, odd, ofFields, ofBits}
+use lib.IntN.{ℤ}
+use lib.Ieee.{Float}
 use lib.ListN.{length}
 use mir.Syntax.{w64}
 use mir.Val.{SFits, boolByte, ofZ, toZ}
@@ -87,11 +87,6 @@ packed-given {r = r} e fits =
       read = toZ-ofZ fits ∙ ap (λ (a : Decimal). a .value) e;
       behind-the-point = ap (λ (a : Decimal). a .fraction) e;
     }
-
--- the literal 0.0
-pub zero-is : ofBits binary64 0 ≡ fin false 0 (pos 0)
-unfolding ofBits ofFields odd
-zero-is = refl
 
 pub value-given : {x : Result Value} {r : Valued} {kind : ℕ} {whole : ℤ} {real : Float} → r ≡ valueAnswer x → kind ≡ kindOf (r .value) → whole ≡ wholeIn (r .value)
     → real ≡ realIn (r .value) → ValueGiven x (r .number) (r .place) kind whole real

@@ -1,7 +1,7 @@
 use borrow.Author.Needs.{needs}
 use mathlib.Core.Path.{sym, ap, _∙_}
 use Rattle.panel.specs.Given.{realIn}
-use Rattle.panel.proofs.Giving.{zero-is}
+use Rattle.fdoca.proofs.FloatForms.{zero-is}
 use Rattle.panel.proofs.real_in.Statement.{statement}
 use Rattle.panel.proofs.real_in.Tie as tie
 
