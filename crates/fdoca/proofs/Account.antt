@@ -14,7 +14,7 @@ use Rattle.fdoca.specs.Basics.{if_then_else_, big, inBase}
 use Rattle.fdoca.specs.FieldType.{FieldType, fixedBytes, variableBytes, terminatedBytes, shortBytes, integer, reversedInteger, packedDecimal, hexFloat, reversedFloat, binaryFloat, LengthField, signedTwo, unsignedOne, fixed, Size, bytes, digits, inBytes, ruleOf}
 use Rattle.fdoca.specs.Item.{Field, fieldLength, Measured, refused, item, Space, unbounded, limited, reserved, space, width, isNegative, isOver, unused, indicated, beforeZero, measureFixed, measureBody, measureCounted, measureTerminated, measureValue, measureNullable, measureItem, measure}
 use Rattle.fdoca.specs.Account.{FixedLength, string, binary, binary-reversed, packed, hex-float, float-reversed, float, Fills, of-bytes, of-half-bytes, one-unused, Reserved, no-limit, value-only, all-sent, NonZero, none-left, one-more, Value, of-size, after-two, after-one, before-zero, Item, plain, null, value, Parts, Begins}
-use Rattle.fdoca.proofs.Tests.{by-test, by-le, by-lt}
+use Rattle.fdoca.proofs.Tests.{by-test, by-le, by-lt, by-eq}
 
 -- what measuring says of an item's parts
 abbrev pub sizes : Parts → Measured
@@ -146,10 +146,14 @@ measured-item : (f : Field) (z : Bool) (p v r rest : List ℕ) → Item f z p v 
     → measure f (p ++ (v ++ (r ++ rest))) ≡ item z (length p) (length v) (length r)
 unfolding measure measureItem measureNullable
 measured-item f z p v r rest (plain h w) = rw (lt-leb 128 (f .code) h) (measured-value (f .mode) (f .size) (f .type) p v r rest w)
-measured-item f z p v r rest (null {b = b} h k) = rw (le-leb 128 (f .code) h, le-leb 128 b k)
-measured-item f z p v r rest (value {b = b} {p = p′} h k w) =
+measured-item f z p v r rest (null {b = b} h k) =
+    rw (le-leb 128 (f .code) h)
+    (by-eq (λ m. m ≡ item true 1 0 0) b _ (λ e. absurd (let z : ⊥ = omega arith in z))
+    (λ e. by-le (λ m. m ≡ item true 1 0 0) _ b (λ l. refl) (λ l. absurd (let z : ⊥ = omega arith in z))))
+measured-item f z p v r rest (value {p = p′} h w) =
     let e : 1 + length p′ ≡ suc (length p′) = omega arith in
-    rw (le-leb 128 (f .code) h, lt-leb 128 b k, measured-value (f .mode) (f .size) (f .type) p′ v r rest w) (cc)
+    rw (le-leb 128 (f .code) h)
+    (ap indicated (measured-value (f .mode) (f .size) (f .type) p′ v r rest w) ∙ ap (λ n. item false n (length v) (length r)) e)
 
 -- What is measured is an item of the account.
 
@@ -363,29 +367,31 @@ module _ (f : Field) where
       go : {z : Bool} {p v r : List ℕ} → OfField z p v r → Item f z p v r
       go (no-null y) = plain h y
 
-  parsed-indicated : (b : ℕ) (s : List ℕ) (m : Measured) → 128 ≤ f .code → b < 128 → Parsed OfField s m → Parsed (Item f) (b ∷ s) (indicated m)
-  parsed-indicated b s (refused k) h g x = tt
-  parsed-indicated b s (item z p v r) h g x =
+  parsed-indicated : (s : List ℕ) (m : Measured) → 128 ≤ f .code → Parsed OfField s m → Parsed (Item f) (0 ∷ s) (indicated m)
+  parsed-indicated s (refused k) h x = tt
+  parsed-indicated s (item z p v r) h x =
       record {
-        lead = b ∷ x .lead;
+        lead = 0 ∷ x .lead;
         value = x .value;
         spare = x .spare;
         rest = x .rest;
-        split = ap (λ y. b ∷ y) (x .split);
+        split = ap (λ y. 0 ∷ y) (x .split);
         kind = go (x .kind);
         lead-length = omega (arith, x .lead-length);
         value-length = x .value-length;
         spare-length = x .spare-length;
       }
     where
-      go : {z : Bool} {p v r : List ℕ} → OfField z p v r → Item f z (b ∷ p) v r
-      go (no-null y) = value h g y
+      go : {z : Bool} {p v r : List ℕ} → OfField z p v r → Item f z (0 ∷ p) v r
+      go (no-null y) = value h y
 
   parsed-nullable : (s : List ℕ) → 128 ≤ f .code → Parsed (Item f) s (measureNullable (ruleOf (f .type) .layout) (f .mode) (fieldLength f) s)
   unfolding measureNullable
   parsed-nullable [] h = tt
   parsed-nullable (b ∷ s) h =
-      by-le (Parsed (Item f) (b ∷ s)) 128 b
+      by-eq (Parsed (Item f) (b ∷ s)) b _
+      (λ e. rw e (parsed-indicated s (measureValue (ruleOf (f .type) .layout) (f .mode) (fieldLength f) s) h (parsed-value (f .mode) (f .size) (f .type) s)))
+      (λ e. by-le (Parsed (Item f) (b ∷ s)) _ b
       (λ k. record {
         lead = b ∷ [];
         value = [];
@@ -397,8 +403,7 @@ module _ (f : Field) where
         value-length = refl;
         spare-length = refl;
       })
-      (λ k. parsed-indicated b s (measureValue (ruleOf (f .type) .layout) (f .mode) (fieldLength f) s) h k
-      (parsed-value (f .mode) (f .size) (f .type) s))
+      (λ k. tt))
 
   parsed : (s : List ℕ) → Parsed (Item f) s (measure f s)
   unfolding measure measureItem

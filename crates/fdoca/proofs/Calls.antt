@@ -41,6 +41,7 @@ pub record Listing (d s old new : List ℕ) : Type 0 where
   pub accepts : check d ≡ ok n
   pub notes : List Note
   pub walks : walkBy (unfolded d) (repeated d) s ≡ ok notes
+  pub room : 2 + 2 * length notes ≤ length old
   pub is-list : new ≡ itemList (length notes) (length s) notes old
   pub kept : Kept (length notes) old new
 
@@ -52,15 +53,17 @@ listing d s old =
     (λ n e. reject-all (not (isSome (repeated d)) && small (length old) n) 12 0
     (λ h₁. bind-all (walkBy (unfolded d) (repeated d) s) (itself (walkBy (unfolded d) (repeated d) s))
     (λ ns w. reject-all (small (length old) (length ns)) 12 0
-    (λ h₂. let k : Listing d s old (itemList (length ns) (length s) ns old) =
+    (λ h₂. let room : 2 + 2 * length ns ≤ length old = ltb-false (length old) (2 + 2 * length ns) h₂ in
+    let k : Listing d s old (itemList (length ns) (length s) ns old) =
     record {
       fits = h;
       n = n;
       accepts = e;
       notes = ns;
       walks = w;
+      room = room;
       is-list = refl;
-      kept = kept-list (length ns) (length s) ns old refl (ltb-false (length old) (2 + 2 * length ns) h₂);
+      kept = kept-list (length ns) (length s) ns old refl room;
     } in
     holds k)))))
 

@@ -7,8 +7,8 @@
 -- and some number of whole passes; the first set is for all others, `repeated d ≡ none`.
 -- Assumes nothing.
 use mathlib.Core.Path.{_≡_, refl, sym, ap, _∙_}
-use mathlib.Core.Logic.{_↔_}
-use Prim.Native.Nat.{ℕ, _+_, _*_, _/_, _^_, _≤_, _<_}
+use mathlib.Core.Logic.{_↔_, inr}
+use Prim.Native.Nat.{ℕ, suc, _+_, _*_, _/_, _^_, _≤_, _<_}
 use native.Mathlib.Omega.{arith}
 use mathlib.Core.Bool.{Bool, true, false, not, _||_}
 use mathlib.Core.List.{List, [], _∷_, _++_, map}
@@ -21,7 +21,7 @@ use borrow.Author.Tests.{le-ltb, lt-ltb}
 use Rattle.fdoca.specs.Basics.{if_then_else_, big, Result, refuse, ok, _>>=_, _>>_, reject, the}
 use Rattle.fdoca.specs.FieldType.{FieldType, terminatedBytes, fixed, typeOf, bytes, digits, sizeOf, ruleOf}
 use Rattle.fdoca.specs.Triplet.{GDA, codeOf, parametersOf}
-use Rattle.fdoca.specs.Item.{Field, withSize}
+use Rattle.fdoca.specs.Item.{Field, withSize, refused, measure}
 use Rattle.fdoca.specs.Walk.{Note, walk, walkRows, walkBy}
 use Rattle.fdoca.specs.Check.{maxDescriptor, maxItems, Entry, array, suitsType, goodColumn, countAdded, addGroup, goodLengthSDA, checkSDA, check}
 use Rattle.fdoca.specs.Unfolding.{fieldsAdded, fieldOf, unfolded, repeated}
@@ -34,16 +34,20 @@ use Rattle.fdoca.specs.Float as float-of
 use Rattle.fdoca.specs.Float.{Number, Equal, Format, longBinary, characteristic, floatOf}
 use Rattle.fdoca.specs.declared.Value.{Value}
 use Rattle.fdoca.specs.declared.Value.the-variants.{Null, Whole, Real}
-use Rattle.fdoca.specs.Reasons.{byte, OneOf, F, Suits, Allowed, Means, OfItems, withPasses, OfRows, Uses, Unfolds, as-it-is, and-passes, OfDescriptor, OfList, OfState, OfWholeNumber, OfPacked, OfValue, fileDescriptor, fileData, OfFile, First, None}
+use Rattle.fdoca.specs.Reasons.{byte, OneOf, F, Suits, Allowed, Means, BadIndicator, OfItems, withPasses, OfRows, Uses, Unfolds, as-it-is, and-passes, OfDescriptor, OfList, OfState, OfWholeNumber, OfPacked, OfValue, fileDescriptor, fileData, OfFile, First, None}
 use Rattle.fdoca.specs.Dump.{refusedLine, textOf, secondSize, dump}
 use Rattle.fdoca.specs.Cover.{sum, positions, lengths, InItem, Part, lead, value, spare, partLength, partBytes, allParts, InPart, endListed, startOf, notesOf, noteOfParts}
+use Rattle.fdoca.specs.HighBit.{measureByHighBit, AcceptedWith, NoneBad}
 use Rattle.fdoca.proofs.Table.{there, past-end}
+use Rattle.fdoca.proofs.Tests.{at-least, neither-over}
+use Rattle.fdoca.proofs.Results.{ok-bind, ok-reject}
 use Rattle.fdoca.proofs.Count.{count-is-length, bad-type}
 use Rattle.fdoca.proofs.Limits.{at-most-4096}
 use Rattle.fdoca.proofs.Cover.{walk-covers, in-an-item, in-one-item}
 use Rattle.fdoca.proofs.Blocks.{walk-complete, walk-sound, note-of-part}
 use Rattle.fdoca.proofs.BlockRows.{notes-number}
 use Rattle.fdoca.proofs.Calls.{items-noted, list-keeps}
+use Rattle.fdoca.proofs.HighBit.{item-24, item-else, accepted-walks, walks-accepted, accepted-shrinks}
 use Rattle.fdoca.proofs.FirstReasons.{refused-first, accepted-none}
 use Rattle.fdoca.proofs.TypeRows.{code-of-type, type-suits, size-given, size-default, size-else, no-sixteen, sixteen-kept}
 use Rattle.fdoca.proofs.CheckRows.{check-told}
@@ -236,6 +240,12 @@ module _ (d s : List ℕ) (n : ℕ) (accepts : check d ≡ ok n) (few : length s
       × (stateOf (itemAt d s k) ≡ record { number = 0; place = 0; null = i .isNull; code = i .field .code; lead = i .lead; value = i .value; spare = i .spare })
       × (lent s (itemAt d s k) ≡ valueOf s i)
   state-holds-by ns e k h = let q = there ns k h in (q .0, q .1, rw (item-walks k, e, q .1), rw (item-walks k, e, q .1))
+
+  -- the reads of an item's value say it too, as they go by its state
+  pub reads-stop : (m p : ℕ) → walkBy (unfolded d) (repeated d) s ≡ refuse m p → (k : ℕ)
+      → (wholeNumber d s k ≡ refuse m p) × (packed d s k ≡ refuse m p) × (calls.value d s k ≡ refuse m p)
+  unfolding wholeNumber packed calls.value
+  reads-stop m p e k = (rw (item-walks k, e), rw (item-walks k, e), rw (item-walks k, e))
 
   no-more-states-by : (ns : List Note) → walkBy (unfolded d) (repeated d) s ≡ ok ns → (k : ℕ) → length ns ≤ k
       → (stateOf (itemAt d s k) ≡ record { number = 17; place = 0; null = false; code = 0; lead = 0; value = 0; spare = 0 }) × (lent s (itemAt d s k) ≡ [])
@@ -511,6 +521,62 @@ module _ (d s : List ℕ) (n : ℕ) (accepts : check d ≡ ok n) (few : length s
     pub one-number-of-passes : (i j : ℕ) (xs ys : List Parts) → Block (withPasses (unfolded d) rows i) xs s → Block (withPasses (unfolded d) rows j) ys s → i ≡ j
     one-number-of-passes i j xs ys a b =
         one-number (unfolded d) rows s (rows-good d n accepts rows repeats) (not-endless d n accepts rows repeats) i j xs ys a b
+
+-- NULL INDICATORS (document 02, Q-8). An item is refused with 24 exactly where its null indicator is X'01' to X'7F', whatever stands behind that byte; any
+-- other is measured as document 01 has it, with the low bits not looked at: 13 where the indicator is missing, and 13, 14 or 15 behind it.
+module _ (f : Field) (s : List ℕ) where
+  pub bad-24 : (measure f s ≡ refused 24) ↔ BadIndicator f s
+  bad-24 = item-24 f s
+
+  pub else-by-high-bit : (BadIndicator f s → ⊥) → measure f s ≡ measureByHighBit f s
+  else-by-high-bit good = item-else f s good
+
+data-fits : (d s : List ℕ) → oversize d s ≡ false → length s ≤ 32768
+data-fits d s h = at-least (length s) 32768 (λ k. neither-over maxDescriptor (length d) maxData (length s) h (inr k))
+
+-- The accepted blocks are those of measuring: a list call takes each with room for its items, and a state call each with an item of that number;
+pub list-takes : (d s old : List ℕ) → ((new : List ℕ) × (list d s old ≡ ok new)) ↔ ((ns : List Note) × AcceptedWith measure d s ns × (2 + 2 * length ns ≤ length old))
+list-takes d s old = (λ (new, e). to new e, λ (ns, x, room). (itemList (length ns) (length s) ns old, back ns x room))
+  where
+    to : (new : List ℕ) → list d s old ≡ ok new → (ns : List Note) × AcceptedWith measure d s ns × (2 + 2 * length ns ≤ length old)
+    to new e =
+        let k = list-keeps d s old new e in
+        (k .notes, walks-accepted d s (k .notes) (k .n) (k .accepts) (data-fits d s (k .fits)) (k .walks), k .room)
+
+    back : (ns : List Note) → AcceptedWith measure d s ns → 2 + 2 * length ns ≤ length old → list d s old ≡ ok (itemList (length ns) (length s) ns old)
+    back ns x room = go (repeated d) refl
+      where
+        go : (o : Option (List Field)) → repeated d ≡ o → list d s old ≡ ok (itemList (length ns) (length s) ns old)
+        go none r =
+            let u : walk (unfolded d) s ≡ ok ns = sym (walks-unfolding d s (x .count) (x .checks) (x .fits) r) ∙ accepted-walks d s ns x in
+            let c : length ns ≡ x .count = items-noted d s (x .count) ns (x .checks) u in
+            rw (list-walks d s (x .count) (x .checks) (x .fits) r old (omega arith), u, c)
+        go (some rows) r =
+            let u : walkRows (unfolded d) rows s ≡ ok ns = sym (walks-rows d s (x .count) (x .checks) (x .fits) rows r) ∙ accepted-walks d s ns x in
+            rw (list-walks-rows d s (x .count) (x .checks) (x .fits) rows r old, u, le-ltb (length old) (2 + 2 * length ns) room)
+
+pub state-takes : (d s : List ℕ) (k : ℕ) → ((i : Note) × (itemAt d s k ≡ ok i)) ↔ ((ns : List Note) × AcceptedWith measure d s ns × (k < length ns))
+unfolding itemAt
+state-takes d s k = (λ (i, e). to i e, λ (ns, x, h). let (i, q) = there ns k h in (i, rw (item-walks d s (x .count) (x .checks) (x .fits) k, accepted-walks d s ns x, q)))
+  where
+    not-none : {i : Note} (o : Option Note) → the o 17 0 ≡ ok i → o ≡ none → ⊥
+    not-none none e q = let z : _≡_ {A = ℕ} 0 1 = cc in omega arith
+    not-none (some a) e q = let z : _≡_ {A = ℕ} 0 1 = cc in omega arith
+
+    among : (ns : List Note) (i : Note) → the (getElem? ns k) 17 0 ≡ ok i → k < length ns
+    among ns i e = at-least (suc k) (length ns) (λ h. not-none (getElem? ns k) e (past-end ns k (omega arith)))
+
+    to : (i : Note) → itemAt d s k ≡ ok i → (ns : List Note) × AcceptedWith measure d s ns × (k < length ns)
+    to i e =
+        let (fits, e₁) = ok-reject (oversize d s) 1 0 _ i e in
+        let (n, checks, e₂) = ok-bind (check d) _ i e₁ in
+        let (ns, walks, e₃) = ok-bind (walkBy (unfolded d) (repeated d) s) _ i e₂ in
+        (ns, walks-accepted d s ns n checks (data-fits d s fits) walks, among ns i e₃)
+
+-- and they shrank by just those with a bad indicator: a block is accepted exactly if it would be with the low bits not looked at, and no null indicator of
+-- its items is X'01' to X'7F'. What is noted of its items is the same.
+pub shrank : (d s : List ℕ) (ns : List Note) → AcceptedWith measure d s ns ↔ (AcceptedWith measureByHighBit d s ns × NoneBad s ns)
+shrank d s ns = accepted-shrinks d s ns
 
 -- Each item of such a block, fs being the unfolding, with rows to the end with some number of passes:
 module _ (d s : List ℕ) (n : ℕ) (accepts : check d ≡ ok n) (few : length s ≤ 32768) (fs : List Field) (unfolds : Unfolds d fs) (most : length fs ≤ 4096)

@@ -20,7 +20,7 @@ use Rattle.fdoca.specs.Calls.{oversize, itemAt}
 use Rattle.fdoca.specs.Check as C
 use Rattle.fdoca.specs.Unfolding.{Described, array, row, fieldsOf, fieldsTaken, fieldsReferred, column, columnReferred, fieldsAdded, groupFields, addFields, fieldOf, Layouts, closeRow, closed, unfoldSDA, unfoldRow, unfoldCPT, unfoldConstruct, unfoldTriplet, unfoldTriplets, start, lastFields, unfolded, lastGroup, rowsOf, rowsAtEnd, repeated}
 use Rattle.fdoca.proofs.Results.{IfOk, none-owed, holds, bind-all, reject-all, ok-of, both-all, always}
-use Rattle.fdoca.proofs.Tests.{by-test, by-le, and-left, and-right}
+use Rattle.fdoca.proofs.Tests.{by-test, by-le, by-eq, and-left, and-right}
 use Rattle.fdoca.specs.Reasons.{Allowed, Unfolds, as-it-is, and-passes}
 use Rattle.fdoca.specs.Between.{entry, entries, rowCounted, state}
 use Rattle.fdoca.proofs.TypeRows.{good-parts, rule-allows}
@@ -325,8 +325,8 @@ fixed-nullable : (l : Layout) (mode F : ℕ) (s : List ℕ) → Filled l F (meas
 unfolding measureNullable
 fixed-nullable fixed mode F [] = tt
 fixed-nullable fixed mode F (b ∷ s) =
-    by-le (Filled fixed F) 128 b (λ h. (omega arith, λ e. absurd (true≢false e)))
-    (λ h. behind-indicator fixed F (measureValue fixed mode F s) (fixed-value fixed mode F s))
+    by-eq (Filled fixed F) b _ (λ h. behind-indicator fixed F (measureValue fixed mode F s) (fixed-value fixed mode F s))
+    (λ h. by-le (Filled fixed F) _ b (λ k. (omega arith, λ e. absurd (true≢false e))) (λ k. tt))
 fixed-nullable (counted k) mode F s = tt
 fixed-nullable terminated mode F s = tt
 

@@ -1,4 +1,4 @@
--- Measuring and the rows 13, 14 and 15 of document 01's table: an item that is measured has none of their reasons; bytes that are refused have one with
+-- Measuring and the rows 13, 14, 15 and 24 of the table of numbers: an item that is measured has none of their reasons; bytes that are refused have one with
 -- the refusal's number, and every other one belongs to a later step.
 -- Assumes nothing.
 use mathlib.Core.Path.{_≡_, refl, sym, ap, _∙_}
@@ -16,12 +16,12 @@ use Rattle.fdoca.specs.FieldType.{FieldType, fixedBytes, variableBytes, 
 use Rattle.fdoca.specs.Item.{Field, fieldLength, Measured, refused, item, Space, unbounded, limited, reserved, space, width, isNegative, isOver, indicated, beforeZero, measureValue, measureNullable, measureItem, measure}
 use Rattle.fdoca.specs.Account.{FixedLength, string, binary, binary-reversed, packed, hex-float, float-reversed, float}
 use Rattle.fdoca.specs.Reasons as R
-use Rattle.fdoca.specs.Reasons.{OneOf, here, there, HasType, Behind, no-indicator, high-bit-0, L, of-two, of-one, Sent, NoZero, ShortData, indicator, length-two, length-one, not-yet, BadCount, NoEnd, none-zero, OfItem, short-data, bad-count, no-end}
+use Rattle.fdoca.specs.Reasons.{OneOf, here, there, HasType, Behind, no-indicator, high-bit-0, L, of-two, of-one, Sent, NoZero, ShortData, indicator, length-two, length-one, not-yet, BadCount, NoEnd, none-zero, BadIndicator, from-01-to-7F, OfItem, short-data, bad-indicator, bad-count, no-end}
 use Rattle.fdoca.proofs.Table.{looked-up}
 use Rattle.fdoca.proofs.TypeRows.{elem-in, plain-low, plain-high, plainCode, type-plain}
 use Rattle.fdoca.proofs.Tests.{by-le, by-eq}
 use Rattle.fdoca.proofs.Account.{big-one, big-two, fixed-layout, space-none, space-limit, space-full, over, over-of}
-use Rattle.fdoca.proofs.ItemTests.{before-zero-within, sent, CutOff, Against, short, short-L, negative, over-F, short-body, no-zero, endless, Earliest, Judged, judged-map, judged-value}
+use Rattle.fdoca.proofs.ItemTests.{before-zero-within, sent, CutOff, Against, short, short-L, negative, over-F, short-body, no-zero, endless, behind-indicator, Earliest, Judged, judged-map, judged-value}
 
 -- THE TYPE CODES.
 
@@ -133,6 +133,7 @@ module _ (f : Field) where
 
   data Seen (s : List ℕ) : (step number : ℕ) → Type 0 where
     missing : 128 ≤ f .code → s ≡ [] → Seen s 0 13
+    bad : BadIndicator f s → Seen s 0 24
     found : {v : List ℕ} {i m : ℕ} → Behind f s v → AgainstValue v i m → Seen s i m
 
   one-behind : {s v w : List ℕ} → Behind f s v → Behind f s w → w ≡ v
@@ -145,12 +146,16 @@ module _ (f : Field) where
   never-missing (no-indicator h) k e = omega arith
   never-missing (high-bit-0 h l) k e = let z : _≡_ {A = ℕ} 0 1 = cc in omega arith
 
+  has-indicator : {s : List ℕ} → BadIndicator f s → 128 ≤ f .code
+  has-indicator (from-01-to-7F h a c) = h
+
   -- with the bytes behind any null indicator, what is found is found there
-  judged-behind : {s v : List ℕ} (x : Measured) → Behind f s v → Judged (AgainstValue v) x → Judged (Seen s) x
-  judged-behind {s} {v} x b = judged-map x (λ i m w. found b w) (λ i m w. back w)
+  judged-behind : {s v : List ℕ} (x : Measured) → Behind f s v → (BadIndicator f s → ⊥) → Judged (AgainstValue v) x → Judged (Seen s) x
+  judged-behind {s} {v} x b good = judged-map x (λ i m w. found b w) (λ i m w. back w)
     where
       back : {i m : ℕ} → Seen s i m → AgainstValue v i m
       back (missing h e) = absurd (never-missing b h e)
+      back (bad w) = absurd (good w)
       back (found c w) = rw (one-behind b c) at w
 
   judged-indicated : (P : ℕ → ℕ → Type 0) (x : Measured) → Judged P x → Judged P (indicated x)
@@ -168,12 +173,23 @@ module _ (f : Field) where
       only (missing k e) = omega arith
       only (found (no-indicator k) w) = absurd (let z : ⊥ = omega arith in z)
   judged-nullable (b ∷ s) h =
-      by-le (Judged (Seen (b ∷ s))) 128 b (λ k i m w. none k w)
+      by-eq (Judged (Seen (b ∷ s))) b _
       (λ k. judged-indicated (Seen (b ∷ s)) (measureValue (ruleOf (f .type) .layout) (f .mode) F s)
-      (judged-behind (measureValue (ruleOf (f .type) .layout) (f .mode) F s) (high-bit-0 h k) (judged-at s)))
+      (judged-behind (measureValue (ruleOf (f .type) .layout) (f .mode) F s) (high-bit-0 h (omega arith)) (zero-good k) (judged-at s)))
+      (λ k. by-le (Judged (Seen (b ∷ s))) _ b (λ l i m w. none l w)
+      (λ l. record { step = 0; reason = bad (from-01-to-7F h (omega arith) (omega arith)); others = λ i m w. only w }))
     where
+      zero-good : b ≡ 0 → BadIndicator f (b ∷ s) → ⊥
+      zero-good k (from-01-to-7F l a c) = omega arith
+
+      only : {i m : ℕ} → Seen (b ∷ s) i m → (0 ≤ i) × (i ≡ 0 → m ≡ 24)
+      only (missing k e) = absurd (let z : _≡_ {A = ℕ} 0 1 = cc in let w : ⊥ = omega arith in w)
+      only (bad k) = omega arith
+      only (found k w) = omega (arith, behind-indicator w)
+
       none : {i m : ℕ} → 128 ≤ b → Seen (b ∷ s) i m → ⊥
       none k (missing l e) = let z : _≡_ {A = ℕ} 0 1 = cc in omega arith
+      none k (bad (from-01-to-7F l a c)) = omega arith
       none k (found (no-indicator l) w) = omega arith
       none k (found (high-bit-0 l r) w) = omega arith
 
@@ -181,7 +197,7 @@ module _ (f : Field) where
   unfolding measure measureItem
   judged-seen s =
       by-le (Judged (Seen s)) 128 (f .code) (λ h. judged-nullable s h)
-      (λ h. judged-behind (measureValue (ruleOf (f .type) .layout) (f .mode) F s) (no-indicator h) (judged-at s))
+      (λ h. judged-behind (measureValue (ruleOf (f .type) .layout) (f .mode) F s) (no-indicator h) (λ w. omega (arith, has-indicator w)) (judged-at s))
 
 module _ (f : Field) where
   abbrev sp : Space
@@ -292,6 +308,7 @@ module _ (f : Field) (typed : typeOf (f .code) ≡ some (f .type)) where
 
   seen : {s : List ℕ} {i m : ℕ} → OfItem f s i m → Seen f s i m
   seen (short-data h) = seen-short h
+  seen (bad-indicator h) = bad h
   seen (bad-count h) = seen-count h
   seen (no-end h) = seen-end h
 
@@ -321,6 +338,7 @@ module _ (f : Field) (typed : typeOf (f .code) ≡ some (f .type)) where
   module _ (known : f .mode ≤ 1) where
     row : {s : List ℕ} {i m : ℕ} → Seen f s i m → OfItem f s i m
     row (missing h e) = rw e (short-data (indicator h))
+    row (bad h) = bad-indicator h
     row (found b w) = row-of (spaced f known) b refl refl w
 
     judged : (s : List ℕ) → Judged (OfItem f s) (measure f s)

@@ -49,6 +49,16 @@ pub data Against (F : ℕ) (v : List ℕ) : Layout → Space → (step number : 
   no-zero : {sp : Space} → CutOff v sp → Against F v terminated sp 3 13
   endless : {sp : Space} → isOver sp (beforeZero v) ≡ true → Against F v terminated sp 3 15
 
+-- each belongs to a step behind that of the null indicator
+pub behind-indicator : {F i m : ℕ} {v : List ℕ} {l : Layout} {sp : Space} → Against F v l sp i m → 1 ≤ i
+behind-indicator (short h) = omega arith
+behind-indicator (short-L h) = omega arith
+behind-indicator (negative h t) = omega arith
+behind-indicator (over-F h t) = omega arith
+behind-indicator (short-body h l) = omega arith
+behind-indicator (no-zero c) = omega arith
+behind-indicator (endless e) = omega arith
+
 -- a reason with its step, before which there is none, and whose number the others of its step have
 pub record Earliest (P : ℕ → ℕ → Type 0) (n : ℕ) : Type 0 where
   pub step : ℕ

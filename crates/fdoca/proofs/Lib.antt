@@ -4,6 +4,7 @@ pub mod Results
 pub mod Everything
 pub mod Examples
 pub mod Outcomes
+pub mod HighBit
 pub mod Within
 pub mod Account
 pub mod Cover

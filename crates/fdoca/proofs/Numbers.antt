@@ -8,7 +8,7 @@ use mathlib.Core.List.{List}
 use Rattle.fdoca.specs.Basics.{Result, refuse, ok}
 use Rattle.fdoca.specs.Item.{Field}
 use Rattle.fdoca.specs.Calls.{itemAt}
-use Rattle.fdoca.specs.Reasons.{OfItem, short-data, bad-count, no-end, OfItems, item, surplus, OfRows, too-many, OfDescriptor, triplet, endless, nothing-described, OfData, items, rows, OfBlock, descriptor, data-of, OfList, small-list, small-for-rows, OfState, no-such-item, not-in-rows, OfWholeNumber, state, wrong-kind, OfPacked, bad-digit, OfValue, no-exact-float, None}
+use Rattle.fdoca.specs.Reasons.{OfItem, short-data, bad-indicator, bad-count, no-end, OfItems, item, surplus, OfRows, too-many, OfDescriptor, triplet, endless, nothing-described, OfData, items, rows, OfBlock, descriptor, data-of, OfList, small-list, small-for-rows, OfState, no-such-item, not-in-rows, OfWholeNumber, state, wrong-kind, OfPacked, bad-digit, OfValue, no-exact-float, None}
 use Rattle.fdoca.proofs.TripletRows.{step-range}
 use Rattle.fdoca.proofs.FirstReasons.{Told, refused, accepted, refused-first}
 use Rattle.fdoca.proofs.CallRows.{state-told}
@@ -21,6 +21,7 @@ descriptor-number (nothing-described h) = omega arith
 
 item-of-number : {f : Field} {s : List ℕ} {step m : ℕ} → OfItem f s step m → 1 ≤ m
 item-of-number (short-data h) = omega arith
+item-of-number (bad-indicator h) = omega arith
 item-of-number (bad-count h) = omega arith
 item-of-number (no-end h) = omega arith
 

@@ -1,4 +1,5 @@
--- What measuring can come to: what holds of the three refusals, and of each item that lies within the bytes, holds of every outcome.
+-- What measuring can come to: what holds of the three refusals of a value, and of each item that lies within the bytes, holds of every outcome of a value;
+-- with the refusal of a null indicator, of an item's too.
 -- Assumes nothing.
 use Prim.Native.Nat.{ℕ, _+_, _-_, _≤_, min}
 use mathlib.Core.Bool.{Bool, true, false}
@@ -8,7 +9,7 @@ use lib.ListN.{length, take}
 use Rattle.fdoca.specs.Basics.{big}
 use Rattle.fdoca.specs.FieldType.{LengthField, Layout, fixed, counted, terminated}
 use Rattle.fdoca.specs.Item.{Measured, refused, item, Space, unbounded, limited, reserved, space, width, isNegative, isOver, unused, measureFixed, measureBody, measureCounted, beforeZero, measureTerminated, measureValue, indicated, measureNullable, measureItem}
-use Rattle.fdoca.proofs.Tests.{by-test, by-le, by-lt}
+use Rattle.fdoca.proofs.Tests.{by-test, by-le, by-lt, by-eq}
 
 -- holds of every outcome over n bytes
 pub record Holds (n : ℕ) (P : Measured → Type 0) : Type 0 where
@@ -48,15 +49,16 @@ module _ (s : List ℕ) (P : Measured → Type 0) (h : Holds (length s) P) where
   of-value (counted k) mode F = of-counted k (space mode F)
   of-value terminated mode F = of-terminated (space mode F)
 
-of-nullable : (s : List ℕ) (P : Measured → Type 0) → Holds (length s) P → (l : Layout) (mode F : ℕ) → P (measureNullable l mode F s)
+of-nullable : (s : List ℕ) (P : Measured → Type 0) → Holds (length s) P → P (refused 24) → (l : Layout) (mode F : ℕ) → P (measureNullable l mode F s)
 unfolding measureNullable
-of-nullable [] P h l mode F = h .short
-of-nullable (b ∷ s) P h l mode F =
-    by-le P 128 b (λ t. h .found true 1 0 0 (omega arith))
+of-nullable [] P h bad l mode F = h .short
+of-nullable (b ∷ s) P h bad l mode F =
+    by-eq P b _
     (λ t. of-value s (λ m. P (indicated m))
     (record { short = h .short; count = h .count; no-end = h .no-end; found = λ z p v r k. h .found z (1 + p) v r (omega arith) })
     l mode F)
+    (λ t. by-le P _ b (λ u. h .found true 1 0 0 (omega arith)) (λ u. bad))
 
-pub of-item : (s : List ℕ) (P : Measured → Type 0) → Holds (length s) P → (isNullable : Bool) (l : Layout) (mode F : ℕ) → P (measureItem isNullable l mode F s)
+pub of-item : (s : List ℕ) (P : Measured → Type 0) → Holds (length s) P → P (refused 24) → (isNullable : Bool) (l : Layout) (mode F : ℕ) → P (measureItem isNullable l mode F s)
 unfolding measureItem
-of-item s P h isNullable l mode F = by-test P isNullable (λ t. of-nullable s P h l mode F) (λ t. of-value s P h l mode F)
+of-item s P h bad isNullable l mode F = by-test P isNullable (λ t. of-nullable s P h bad l mode F) (λ t. of-value s P h l mode F)

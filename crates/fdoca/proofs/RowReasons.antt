@@ -130,7 +130,7 @@ no-item {f} (plain l x) g a b c =
     plain-below : (c : ℕ) → c < 128 → P.plain c ≡ c
     plain-below c l = rw (lt-leb 128 c l)
 no-item (null l h) g a b c = absurd (let z : ⊥ = omega (arith, ap length a) in z)
-no-item (value l h x) g a b c = absurd (let z : ⊥ = omega (arith, ap length a) in z)
+no-item (value l x) g a b c = absurd (let z : ⊥ = omega (arith, ap length a) in z)
 
 no-bytes : (f : Field) → GoodField f → (z : Bool) (p v r : ℕ) → measure f [] ≡ item z p v r → (f .code ≡ 0x01) × (fieldLength f ≡ 0)
 no-bytes f g z p v r e =

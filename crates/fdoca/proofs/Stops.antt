@@ -126,7 +126,7 @@ From13 (item z p v r) = Unit {0}
 item-number : (f : Field) (s : List ℕ) → From13 (measure f s)
 unfolding measure
 item-number f s =
-    of-item s From13 (record { short = omega arith; count = omega arith; no-end = omega arith; found = λ z p v r h. tt })
+    of-item s From13 (record { short = omega arith; count = omega arith; no-end = omega arith; found = λ z p v r h. tt }) (omega arith)
     (nullable (f .code)) (ruleOf (f .type) .layout) (f .mode) (fieldLength f)
 
 pub walk-number : (fs : List Field) (s : List ℕ) (n q : ℕ) → walk fs s ≡ refuse n q → 13 ≤ n

@@ -51,7 +51,7 @@ same-account e a b c h = rw (e, a, b, c) h
 null-account : {f : Field} {n : Bool} {p v r : List ℕ} → n ≡ true → Item f n p v r → (length p ≡ 1) × (length v ≡ 0) × (length r ≡ 0)
 null-account e (plain h x) = absurd (let z : _≡_ {A = ℕ} 0 1 = cc in let w : ⊥ = omega arith in w)
 null-account e (null h k) = (refl, refl, refl)
-null-account e (account.value h k x) = absurd (let z : _≡_ {A = ℕ} 0 1 = cc in let w : ⊥ = omega arith in w)
+null-account e (account.value h x) = absurd (let z : _≡_ {A = ℕ} 0 1 = cc in let w : ⊥ = omega arith in w)
 
 -- and a null-terminated value has no zero byte, with one right behind it
 abbrev pub Ended : (v r : List ℕ) → Type 0
@@ -67,7 +67,7 @@ ended-value e (before-zero {r = r} h x) = (r, refl, h)
 ended-account : {f : Field} {n : Bool} {p v r : List ℕ} → f .type ≡ terminatedBytes → n ≡ false → Item f n p v r → Ended v r
 ended-account t e (plain h x) = ended-value t x
 ended-account t e (null h k) = absurd (let z : _≡_ {A = ℕ} 0 1 = cc in let w : ⊥ = omega arith in w)
-ended-account t e (account.value h k x) = ended-value t x
+ended-account t e (account.value h x) = ended-value t x
 
 module _ (d s : List ℕ) (k : ℕ) (i : Note) (e : itemAt d s k ≡ ok i) where
   stands : Stands s i

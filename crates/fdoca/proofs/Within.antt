@@ -19,7 +19,7 @@ pub within-value : (l : Layout) (mode F : ℕ) (s : List ℕ) → Within (length
 within-value l mode F s = of-value s (Within (length s)) (held (length s)) l mode F
 
 pub within-item : (isNullable : Bool) (l : Layout) (mode F : ℕ) (s : List ℕ) → Within (length s) (measureItem isNullable l mode F s)
-within-item isNullable l mode F s = of-item s (Within (length s)) (held (length s)) isNullable l mode F
+within-item isNullable l mode F s = of-item s (Within (length s)) (held (length s)) tt isNullable l mode F
 
 pub within : (f : Field) (s : List ℕ) → Within (length s) (measure f s)
 unfolding measure

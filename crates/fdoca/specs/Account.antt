@@ -51,11 +51,12 @@ pub data Value (mode : ℕ) (z : Size) : FieldType → List ℕ → List ℕ →
   -- bytes that are not zero, and a zero byte
   before-zero : {v r : List ℕ} → NonZero v → Reserved mode (inBytes z) (length v) r → Value mode z terminatedBytes [] v (0 ∷ r)
 
--- The bytes of an item: of a type that is not nullable, of a null, and of a value behind its null indicator.
+-- The bytes of an item: of a type that is not nullable, of a null, and of a value behind its null indicator. An item with any other indicator is spoiled
+-- (document 02, Q-8).
 pub data Item (f : Field) : Bool → List ℕ → List ℕ → List ℕ → Type 0 where
   plain : {p v r : List ℕ} → f .code < 128 → Value (f .mode) (f .size) (f .type) p v r → Item f false p v r
-  null : {b : ℕ} → 128 ≤ f .code → 128 ≤ b → Item f true (b ∷ []) [] []
-  value : {b : ℕ} {p v r : List ℕ} → 128 ≤ f .code → b < 128 → Value (f .mode) (f .size) (f .type) p v r → Item f false (b ∷ p) v r
+  null : {b : ℕ} → 128 ≤ f .code → 0x80 ≤ b → Item f true (b ∷ []) [] []
+  value : {p v r : List ℕ} → 128 ≤ f .code → Value (f .mode) (f .size) (f .type) p v r → Item f false (0x00 ∷ p) v r
 
 -- An item's null mark and its three runs of bytes.
 pub record Parts : Type 0 where

@@ -1,4 +1,4 @@
--- One item of a data block: how it is measured (document 01, "Field types", and the order within an item).
+-- One item of a data block: how it is measured (document 01, "Field types", and the order within an item; document 02, Q-8).
 use Prim.Native.Nat.{ℕ, suc, _+_, _-_, min}
 use mathlib.Core.Bool.{Bool, true, false}
 use mathlib.Core.List.{List, [], _∷_}
@@ -25,7 +25,7 @@ withSize z f = record { id = f .id; code = f .code; type = f .type; mode = f .mo
 abbrev pub fieldLength : Field → ℕ
 fieldLength f = inBytes (f .size)
 
--- What measuring an item finds: a refusal's number (13, 14, 15), or the null mark and three lengths (Q-6), which add up to the item's: the lead, which
+-- What measuring an item finds: a refusal's number (13, 14, 15, 24), or the null mark and three lengths (Q-6), which add up to the item's: the lead, which
 -- precedes the value (null indicator and length field), the value, and the spare, which follows it (terminator and reserved space).
 pub data Measured : Type 0 where
   refused : ℕ → Measured
@@ -108,10 +108,14 @@ abbrev pub indicated : Measured → Measured
 indicated (refused n) = refused n
 indicated (item z p v r) = item z (1 + p) v r
 
--- A null indicator is one byte: with its high bit the item is that byte alone, without it the item goes on.
+-- A null indicator is one byte (Q-8): X'00' means a value, which follows, X'80' to X'FF' a null, which is that byte alone. The rest are refused with 24,
+-- before L is read.
 unfoldable pub measureNullable : Layout → (mode F : ℕ) → List ℕ → Measured
 measureNullable l mode F [] = refused 13
-measureNullable l mode F (b ∷ s) = if leb 128 b then item true 1 0 0 else indicated (measureValue l mode F s)
+measureNullable l mode F (b ∷ s) =
+    if eqb b 0x00 then indicated (measureValue l mode F s)
+    else if leb 0x80 b then item true 1 0 0
+    else refused 24
 
 unfoldable pub measureItem : (isNullable : Bool) → Layout → (mode F : ℕ) → List ℕ → Measured
 measureItem isNullable l mode F s = if isNullable then measureNullable l mode F s else measureValue l mode F s

@@ -12,4 +12,5 @@ pub mod Dump
 pub mod Account
 pub mod Reasons
 pub mod Cover
+pub mod HighBit
 pub mod Between

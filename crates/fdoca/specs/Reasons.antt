@@ -1,6 +1,6 @@
--- Document 01's table "Numbers a caller can meet", with 6 as Q-2 leaves it, 20 by Q-1, group triplets and 21 by Q-4, rows to the end and 22 by Q-5, and
--- 23 by Q-7, row by row: for each number its column "When", said of a triplet, a group, an item or a call by itself, with its place and without regard to
--- the other rows; then 01's order.
+-- Document 01's table "Numbers a caller can meet", with 6 as Q-2 leaves it, 20 by Q-1, group triplets and 21 by Q-4, rows to the end and 22 by Q-5, 23 by
+-- Q-7, and 24 by Q-8, row by row: for each number its column "When", said of a triplet, a group, an item or a call by itself, with its place and without
+-- regard to the other rows; then 01's order.
 -- Bytes are read at their places. The unfolding, a field's length in bytes, the split of bytes into halves, the number that bytes are and the standard's
 -- account of an item are taken from their own files; nothing is taken from the check, from measuring, from the calls, or from the floats.
 use mathlib.Core.Path.{_≡_}
@@ -281,7 +281,7 @@ pub data OfTriplet (d : List ℕ) (j : ℕ) : (group step number : ℕ) → Type
   too-many-up-to : {k : ℕ} → TooManyUpTo d j k → OfTriplet d j (suc k) 11 10
 
 -- THE ROWS that speak of an item of the field f, whose bytes and all behind them are s. Each belongs to a step of measuring: 0 null indicator, 1 L
--- bytes, 2 L's range, 3 body.
+-- bytes, 2 L's range, 3 body. What stands behind a bad indicator is judged by the other rows too, but at a later step.
 
 -- A field's type code is c or its nullable form.
 abbrev pub HasType : Field → (c : ℕ) → Type 0
@@ -330,8 +330,13 @@ pub data NoEnd (f : Field) : List ℕ → Type 0 where
   none-zero : {s v : List ℕ} → Behind f s v → HasType f 0x03 → 0 < fieldLength f → fieldLength f + 1 ≤ length v → NoZero (fieldLength f + 1) v
       → NoEnd f s
 
+-- 24, Bad indicator (Q-8): a null indicator of X'01' to X'7F'.
+pub data BadIndicator (f : Field) : List ℕ → Type 0 where
+  from-01-to-7F : {b : ℕ} {s : List ℕ} → 0x80 ≤ f .code → 0x01 ≤ b → b ≤ 0x7F → BadIndicator f (b ∷ s)
+
 pub data OfItem (f : Field) (s : List ℕ) : (step number : ℕ) → Type 0 where
   short-data : {step : ℕ} → ShortData f step s → OfItem f s step 13
+  bad-indicator : BadIndicator f s → OfItem f s 0 24
   bad-count : BadCount f s → OfItem f s 2 14
   no-end : NoEnd f s → OfItem f s 3 15
 

@@ -26,7 +26,7 @@ pub numbered-value : (l : Layout) (mode F : ℕ) (s : List ℕ) → Numbered (me
 numbered-value l mode F s = of-value s Numbered (numbered (length s)) l mode F
 
 pub numbered-item : (isNullable : Bool) (l : Layout) (mode F : ℕ) (s : List ℕ) → Numbered (measureItem isNullable l mode F s)
-numbered-item isNullable l mode F s = of-item s Numbered (numbered (length s)) isNullable l mode F
+numbered-item isNullable l mode F s = of-item s Numbered (numbered (length s)) (omega arith) isNullable l mode F
 
 -- what an outcome is, by its answer's number
 module _ (m : Measured) where

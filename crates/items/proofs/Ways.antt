@@ -104,19 +104,23 @@ module _ (s : List ℕ) where
       go [] e = rw t h
       go (a ∷ s) e = absurd (let z : ⊥ = omega arith in z)
 
-first-byte : (s : List ℕ) → (length s ≡ 0 → ⊥) → measureIndicator true s ≡ (if leb 128 (getD s 0 0) then item true 1 0 0 else item false 1 0 0)
+first-byte : (s : List ℕ) → (length s ≡ 0 → ⊥)
+    → measureIndicator true s ≡ (if eqb (getD s 0 0) 0 then item false 1 0 0 else if leb 128 (getD s 0 0) then item true 1 0 0 else refused 24)
 unfolding measureIndicator
 first-byte [] e = absurd (e refl)
 first-byte (b ∷ s) e = refl
 
 module _ (s : List ℕ) (b : Bool) (t : b ≡ true) (e : length s ≡ 0 → ⊥) where
-  pub no-null : (m : Measured) → getD s 0 0 < 128 → m ≡ answer (item false 1 0 0) → m ≡ answer (measureIndicator b s)
-  no-null m k h = simp (t, first-byte s e, lt-leb _ _ k) h
+  pub no-null : (m : Measured) → getD s 0 0 ≡ 0 → m ≡ answer (item false 1 0 0) → m ≡ answer (measureIndicator b s)
+  no-null m k h = simp (t, first-byte s e, eq-eqb _ _ k) h
 
-  pub a-null : 128 ≤ getD s 0 0 → answer (item true 1 0 0) ≡ answer (measureIndicator b s)
-  a-null k = simp (t, first-byte s e, le-leb _ _ k)
+  pub neither : (m : Measured) → (getD s 0 0 ≡ 0 → ⊥) → getD s 0 0 < 128 → m ≡ answer (refused 24) → m ≡ answer (measureIndicator b s)
+  neither m z k h = simp (t, first-byte s e, ne-eqb _ _ z, lt-leb _ _ k) h
 
-pub ruleset indicator-ways = (no-indicator, no-byte, no-null, a-null, not-true, not-false)
+  pub a-null : (getD s 0 0 ≡ 0 → ⊥) → 128 ≤ getD s 0 0 → answer (item true 1 0 0) ≡ answer (measureIndicator b s)
+  a-null z k = simp (t, first-byte s e, ne-eqb _ _ z, le-leb _ _ k)
+
+pub ruleset indicator-ways = (no-indicator, no-byte, no-null, neither, a-null, not-true, not-false)
 
 -- an item by what its null indicator tells: none, a null, or the value behind so many bytes
 abbrev moved : ℕ → defined.Measured → defined.Measured
@@ -141,11 +145,13 @@ module _ (l : Layout) (mode f : ℕ) where
   unfolding measureIndicator measureItem measureNullable
   by-indicator false s = moved-0 (measureValue l mode f s)
   by-indicator true [] = refl
-  by-indicator true (b ∷ s) = go (leb 128 b)
+  by-indicator true (b ∷ s) = go (eqb b 0) (leb 128 b)
     where
-      go : (t : Bool) → (if t then item true 1 0 0 else indicated (measureValue l mode f s)) ≡ told (if t then item true 1 0 0 else item false 1 0 0) (λ k. measureValue l mode f (drop k (b ∷ s)))
-      go true = refl
-      go false = moved-1 (measureValue l mode f s)
+      go : (z t : Bool) → (if z then indicated (measureValue l mode f s) else if t then item true 1 0 0 else refused 24)
+          ≡ told (if z then item false 1 0 0 else if t then item true 1 0 0 else refused 24) (λ k. measureValue l mode f (drop k (b ∷ s)))
+      go true t = moved-1 (measureValue l mode f s)
+      go false true = refl
+      go false false = refl
 
 module _ (m : Measured) where
   refused-told : (x : defined.Measured) (g : ℕ → defined.Measured) → m ≡ answer x → (m .number ≡ 0 → ⊥) → m ≡ answer (told x g)
@@ -168,13 +174,14 @@ numbered-indicator : (b : Bool) (s : List ℕ) → Numbered (measureIndicator b 
 unfolding measureIndicator
 numbered-indicator false s = tt
 numbered-indicator true [] = omega arith
-numbered-indicator true (b ∷ s) = by-test Numbered (leb 128 b) (λ t. tt) (λ t. tt)
+numbered-indicator true (b ∷ s) = by-test Numbered (eqb b 0) (λ t. tt) (λ t. by-test Numbered (leb 128 b) (λ u. tt) (λ u. omega arith))
 
 within-indicator : (b : Bool) (s : List ℕ) → Within (length s) (measureIndicator b s)
 unfolding measureIndicator
 within-indicator false s = omega arith
 within-indicator true [] = tt
-within-indicator true (b ∷ s) = by-test (Within (length (b ∷ s))) (leb 128 b) (λ t. omega arith) (λ t. omega arith)
+within-indicator true (b ∷ s) =
+    by-test (Within (length (b ∷ s))) (eqb b 0) (λ t. omega arith) (λ t. by-test (Within (length (b ∷ s))) (leb 128 b) (λ u. omega arith) (λ u. tt))
 
 module _ (b : Bool) (s : List ℕ) (m : Measured) (h : m ≡ answer (measureIndicator b s)) where
   pub indicator-inside : m .lead ≤ length s

@@ -20,7 +20,7 @@ measureRanged sp w L left = if isOver sp L then refused 14 else measureBody sp w
 unfoldable pub measureIndicator : (isNullable : Bool) → List ℕ → defined.Measured
 measureIndicator false s = item false 0 0 0
 measureIndicator true [] = refused 13
-measureIndicator true (b ∷ s) = if leb 128 b then item true 1 0 0 else item false 1 0 0
+measureIndicator true (b ∷ s) = if eqb b 0 then item false 1 0 0 else if leb 128 b then item true 1 0 0 else refused 24
 
 -- An answer whose item stands behind `skip` bytes, with them.
 unfoldable pub movedBy : (skip : ℕ) → Measured → Measured

@@ -14,6 +14,9 @@ use terminated::refusal;
 // The length field is below 0, or over a field length above 0.
 const BAD_COUNT: u8 = 14;
 
+// The null indicator is X'01' to X'7F'.
+const BAD_INDICATOR: u8 = 24;
+
 // A value of F bytes, which is the whole item of a form without a null indicator.
 pub fn fixed_value(s: &[u8], f: usize) -> Measured
     ensures { λ r. ⌜ r ≡ answer (measureFixed f (now (s .entry))) ⌝ }
@@ -92,8 +95,7 @@ fn value(s: &[u8], layout: u8, mode: u8, f: usize) -> Measured
     terminated::terminated_value(s, mode, f)
 }
 
-// What the null indicator tells, of which only the high bit counts: no item for want of it, a null, which is that byte alone, or how many
-// bytes the value stands behind.
+// What the null indicator tells: no item, for want of it or since it is bad, a null, which is that byte alone, or how many bytes the value stands behind.
 fn indicator(s: &[u8], nullable: bool) -> Measured
     ensures { λ r. ⌜ r ≡ answer (measureIndicator nullable (now (s .entry))) ⌝ }
 {
@@ -103,8 +105,12 @@ fn indicator(s: &[u8], nullable: bool) -> Measured
     if s.len() == 0 {
         return refusal(SHORT_DATA);
     }
-    if s[0] < 128 {
+    let told = s[0];
+    if told == 0 {
         return found(1, 0, 0);
+    }
+    if told < 128 {
+        return refusal(BAD_INDICATOR);
     }
     Measured {
         number: 0,

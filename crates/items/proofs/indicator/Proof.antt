@@ -18,8 +18,8 @@ refusal-requires c κs = search needs
 returns-2 : tie.Need-returns-2
 returns-2 c = search indicator-ways
 
-shared-slice-read-if3 : tie.Need-shared-slice-read-if3
-shared-slice-read-if3 c = search needs
+shared-slice-read-told : tie.Need-shared-slice-read-told
+shared-slice-read-told c = search needs
 
 found-requires-2 : tie.Need-found-requires-2
 found-requires-2 c κs = search needs
@@ -27,9 +27,15 @@ found-requires-2 c κs = search needs
 returns-3 : tie.Need-returns-3
 returns-3 c = search indicator-ways
 
+refusal-requires-2 : tie.Need-refusal-requires-2
+refusal-requires-2 c κs = search needs
+
 returns-4 : tie.Need-returns-4
-unfolding answer
 returns-4 c = search indicator-ways
+
+returns-5 : tie.Need-returns-5
+unfolding answer
+returns-5 c = search indicator-ways
 
 pub indicator-spec : {M : Type 1} → statement M
 indicator-spec =
@@ -39,7 +45,9 @@ indicator-spec =
     returns
     refusal-requires
     returns-2
-    shared-slice-read-if3
+    shared-slice-read-told
     found-requires-2
     returns-3
-    returns-4)
+    refusal-requires-2
+    returns-4
+    returns-5)
