@@ -36,6 +36,7 @@ pub struct Item {
 const SHORT_DATA: u32 = 13;
 const BAD_COUNT: u32 = 14;
 const NO_END: u32 = 15;
+const BAD_INDICATOR: u32 = 24;
 
 impl Field {
     /// Whether every item is a fixed string without bytes.
@@ -67,7 +68,8 @@ impl Field {
                     length: 1,
                 })
             }
-            [_, rest @ ..] => rest,
+            [0, rest @ ..] => rest,
+            _ => return Err(BAD_INDICATOR),
         };
         let (value, rest) = self.measure_value(body)?;
         Ok(Item {

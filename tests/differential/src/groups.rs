@@ -4,6 +4,7 @@ mod codes;
 mod descriptor_bytes;
 mod floats;
 mod forms;
+mod indicators;
 mod layouts;
 mod limits;
 mod packed;
@@ -21,7 +22,7 @@ pub struct Group {
     pub run: fn(&mut Comparison),
 }
 
-pub const GROUPS: [Group; 30] = [
+pub const GROUPS: [Group; 33] = [
     Group {
         name: "valid blocks of every form",
         run: forms::every_form,
@@ -137,6 +138,18 @@ pub const GROUPS: [Group; 30] = [
     Group {
         name: "values of floats of other lengths",
         run: values::other_lengths,
+    },
+    Group {
+        name: "every null indicator of every nullable type",
+        run: indicators::every_indicator,
+    },
+    Group {
+        name: "every null indicator among other items",
+        run: indicators::every_place,
+    },
+    Group {
+        name: "bad null indicators in items that are not asked for",
+        run: indicators::every_item,
     },
     Group {
         name: "random bytes",

@@ -14,6 +14,8 @@ mod examples;
 mod floats;
 #[path = "../../reader/tests/vectors/groups.rs"]
 mod groups;
+#[path = "../../reader/tests/vectors/indicators.rs"]
+mod indicators;
 #[path = "../../reader/tests/vectors/limits.rs"]
 mod limits;
 #[path = "../../reader/tests/vectors/packed.rs"]

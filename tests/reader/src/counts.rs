@@ -2,7 +2,7 @@
 
 use std::collections::BTreeMap;
 
-use crate::refusal::{BAD_FILE, NO_EXACT_FLOAT};
+use crate::refusal::{BAD_FILE, BAD_INDICATOR};
 
 /// The times of each number that a call can give: of all but the dump program's own.
 #[derive(Debug)]
@@ -12,7 +12,7 @@ pub struct Counts {
 
 impl Default for Counts {
     fn default() -> Counts {
-        let numbers = (0..=NO_EXACT_FLOAT).filter(|&number| number != BAD_FILE);
+        let numbers = (0..=BAD_INDICATOR).filter(|&number| number != BAD_FILE);
         Counts {
             times: numbers.map(|number| (number, 0)).collect(),
         }

@@ -125,11 +125,11 @@ impl Generator {
         (block.triplets.concat(), block.data)
     }
 
-    /// A valid descriptor; the data is cut, too long, changed or spoiled.
+    /// A valid descriptor; the data is cut, too long, changed, spoiled or has a bad indicator.
     fn varied_data(&mut self) -> (Vec<u8>, Vec<u8>) {
         let block = self.block();
         let mut data = block.data;
-        match self.random.below(6) {
+        match self.random.below(8) {
             0 if !data.is_empty() => data.truncate(self.random.below(data.len())),
             1 => data.extend(self.few_bytes()),
             2 | 3 if !data.is_empty() => {
@@ -137,6 +137,11 @@ impl Generator {
                 data[offset] = self
                     .random
                     .pick(&[0, 1, 0x7F, 0x80, 0xFF, data[offset] ^ 1]);
+            }
+            4 | 5 => {
+                if let Some(bad) = fitting::bad_indicator_data(&mut self.random, &block.fields) {
+                    data = bad;
+                }
             }
             _ => {
                 if let Some(spoiled) = fitting::spoiled_data(&mut self.random, &block.fields) {
@@ -233,7 +238,7 @@ fn fields_of(descriptor: &[u8], data: &[u8]) -> Vec<Field> {
 #[cfg(test)]
 mod tests {
     use super::*;
-    use crate::refusal::{BAD_COUNT, NO_END};
+    use crate::refusal::{BAD_COUNT, BAD_INDICATOR, NO_END};
 
     #[test]
     fn blocks_fit_unless_spoiled() {
@@ -247,6 +252,10 @@ mod tests {
             if let Some(data) = fitting::spoiled_data(&mut generator.random, &block.fields) {
                 let number = walk(&unfolding, &data).map_err(|refusal| refusal.number);
                 assert!(matches!(number, Err(BAD_COUNT | NO_END)));
+            }
+            if let Some(data) = fitting::bad_indicator_data(&mut generator.random, &block.fields) {
+                let number = walk(&unfolding, &data).map_err(|refusal| refusal.number);
+                assert_eq!(number, Err(BAD_INDICATOR));
             }
         }
     }

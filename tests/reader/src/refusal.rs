@@ -40,3 +40,4 @@ pub const BAD_DIGIT: u32 = 20;
 pub const COLUMN_MISFIT: u32 = 21;
 pub const ENDLESS: u32 = 22;
 pub const NO_EXACT_FLOAT: u32 = 23;
+pub const BAD_INDICATOR: u32 = 24;

@@ -8,8 +8,6 @@ use crate::refusal::*;
 
 pub const MAX_DATA: usize = 32_768;
 
-const NO_VALUE: u8 = 0x80;
-
 /// What the walk notes of an item.
 #[derive(Clone, Debug, PartialEq, Eq)]
 pub struct Note {
@@ -122,10 +120,10 @@ fn measure(field: &Field, bytes: &[u8]) -> Result<Item, u32> {
         });
     }
     let (indicator, rest) = bytes.split_first().ok_or(SHORT_DATA)?;
-    let is_null = indicator & NO_VALUE != 0;
-    let behind = match is_null {
-        true => Parts::default(),
-        false => measure_value(field, rest)?,
+    let (is_null, behind) = match indicator {
+        0x00 => (false, measure_value(field, rest)?),
+        0x01..=0x7F => return Err(BAD_INDICATOR),
+        0x80..=0xFF => (true, Parts::default()),
     };
     Ok(Item {
         is_null,

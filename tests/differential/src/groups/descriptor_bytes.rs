@@ -63,7 +63,7 @@ fn mixed_row() -> (Vec<u8>, Vec<u8>) {
         &[0, 0, 2, b'a', b'b'][..],
         b"x\0yz",
         &[1, b'a', 0, 2, b'b', b'c', 0],
-        &[0x7F, 0xFE, 0xFF, 0xFF, 0xFF],
+        &[0, 0xFE, 0xFF, 0xFF, 0xFF],
         &[0; 8],
     ];
     (descriptor.concat(), data.concat())
@@ -151,7 +151,7 @@ fn rows() -> (Vec<u8>, Vec<u8>) {
         row(3, &[[1, 2, 1], [2, 0, 1]]),
         of_parts(RLO, 4, [[2, 0, 1], [3, 0, 0]].chunks(1)),
     ];
-    let data = [0, 7, 0x80, 0x80, 0x7F, 8];
+    let data = [0, 7, 0x80, 0x80, 0, 8];
     (descriptor.concat(), data.to_vec())
 }
 

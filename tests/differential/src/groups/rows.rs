@@ -30,6 +30,7 @@ pub fn every_code(comparison: &mut Comparison) {
             ] {
                 for value in VALUES {
                     compare_parts(comparison, &descriptor, &value);
+                    compare_parts(comparison, &descriptor, &[&[0], &value[..]].concat());
                 }
                 compare_parts(comparison, &descriptor, &[0x80; 9]);
             }
@@ -79,7 +80,7 @@ fn blocks() -> [(Vec<u8>, Vec<u8>); 7] {
 }
 
 /// Three passes of a whole number and a string, the first number and the last being no null.
-const PAIRS: [u8; 16] = [0, 1, 2, 0, 2, 7, 8, 0x80, 0, 0, 0x7F, 3, 4, 0, 1, 9];
+const PAIRS: [u8; 16] = [0, 1, 2, 0, 2, 7, 8, 0x80, 0, 0, 0, 3, 4, 0, 1, 9];
 
 /// A whole number, a string, a field without bytes, an RLO of id 4 over the first two, and a field
 /// of two bytes.

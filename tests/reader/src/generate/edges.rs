@@ -3,6 +3,7 @@
 
 mod columns;
 mod floats;
+mod indicators;
 mod packed;
 mod parts;
 mod rows;
@@ -36,6 +37,7 @@ pub fn edges() -> Vec<Case> {
     cases.extend(rows::blocks());
     cases.extend(parts::blocks());
     cases.extend(values::blocks());
+    cases.extend(indicators::blocks());
     cases
 }
 
@@ -48,6 +50,7 @@ pub fn limits() -> Vec<Case> {
         .map(|descriptor| fitting_case(&mut random, descriptor))
         .collect();
     cases.extend(rows::counts());
+    cases.extend(indicators::counts());
     for size in [MAX_DESCRIPTOR - 1, MAX_DESCRIPTOR, MAX_DESCRIPTOR + 1] {
         cases.push(case(&vec![0; size], &[], 4, 0));
     }
@@ -331,7 +334,7 @@ fn blocks() -> Vec<Case> {
         with_groups(RLO, 3, &[[1, 0, 1], [2, 0, 1]]),
     ]
     .concat();
-    let data = [0, 9, 0x7F, 0x80, 0];
+    let data = [0, 9, 0, 0x80, 0];
     for length in 0..=data.len() {
         cases.push(case(&pair, &data[..length], 6, 1));
     }
@@ -411,6 +414,7 @@ pub fn files(seed: u64, count: usize) -> Vec<Vec<u8>> {
     files.extend(floats::files());
     files.extend(columns::files());
     files.extend(rows::files());
+    files.extend(indicators::files());
     // sizes that the file does not fit, or that are over their limits
     for length in 0..=9 {
         files.push(vec![0; length]);

@@ -233,12 +233,13 @@ pub fn full_group() -> Vec<u8> {
 }
 
 /// One item of mode 0 that fills the data block, its value being short; at times a GDA puts its
-/// length in.
+/// length in, and at times its indicator is bad.
 fn long_item(random: &mut Random, over: usize) -> (Vec<u8>, Vec<u8>) {
     let (type_code, field_length, lead): (u8, u16, &[u8]) = random.pick(&[
         (0x02, 32_766, &[0, 2]),
         (0x82, 32_765, &[0, 0, 2]),
         (0x03, 32_767, &[0x41, 0]),
+        (0x83, 32_766, &[0, 0x41, 0x42, 0]),
         (0x83, 32_766, &[0x7F, 0x41, 0x42, 0]),
     ]);
     let sda = |length| sda_of(SDA_ID, type_code, plain_parameters(0, length), &[]);

@@ -15,29 +15,66 @@ pub(super) fn data(random: &mut Random, fields: &[Field]) -> Vec<u8> {
 /// Data that fits all fields but one, whose item has a bad count or no end.
 /// None if no field allows that.
 pub(super) fn spoiled_data(random: &mut Random, fields: &[Field]) -> Option<Vec<u8>> {
-    let can_spoil: Vec<usize> = (0..fields.len())
-        .filter(|&item| match fields[item].form() {
-            Form::Fixed | Form::Packed => false,
-            Form::Variable => true,
-            Form::NullTerminated | Form::Short => fields[item].field_length() > 0,
-        })
-        .collect();
-    if can_spoil.is_empty() {
-        return None;
-    }
-    let spoiled = random.pick(&can_spoil);
+    let spoiled = any_of(random, fields, can_spoil)?;
     let mut data = data(random, &fields[..spoiled]);
     if fields[spoiled].is_nullable() {
-        data.push(indicator(random));
+        data.push(VALUE_FOLLOWS);
     }
     data.extend(spoiled_value(random, &fields[spoiled]));
     data.extend(self::data(random, &fields[spoiled + 1..]));
     Some(data)
 }
 
-/// A null indicator that says that a value follows; its low bits are free.
-fn indicator(random: &mut Random) -> u8 {
-    random.pick(&[0, 0, 1, 0x7F, 0x40])
+/// Data that fits all fields but one, whose item has a bad indicator; behind that is a value, one
+/// with a bad count or no end, or none. None if no field is nullable.
+pub(super) fn bad_indicator_data(random: &mut Random, fields: &[Field]) -> Option<Vec<u8>> {
+    let item = any_of(random, fields, Field::is_nullable)?;
+    let field = &fields[item];
+    let mut data = data(random, &fields[..item]);
+    data.push(bad_indicator(random));
+    match random.below(5) {
+        0 => return Some(data),
+        1 => {}
+        2 if can_spoil(field) => data.extend(spoiled_value(random, field)),
+        _ => data.extend(value(random, field)),
+    }
+    data.extend(self::data(random, &fields[item + 1..]));
+    Some(data)
+}
+
+/// The number of any of the fields that are meant.
+fn any_of(random: &mut Random, fields: &[Field], is_meant: fn(&Field) -> bool) -> Option<usize> {
+    let meant: Vec<usize> = (0..fields.len())
+        .filter(|&item| is_meant(&fields[item]))
+        .collect();
+    (!meant.is_empty()).then(|| random.pick(&meant))
+}
+
+/// Whether an item can have a bad count or no end.
+fn can_spoil(field: &Field) -> bool {
+    match field.form() {
+        Form::Fixed | Form::Packed => false,
+        Form::Variable => true,
+        Form::NullTerminated | Form::Short => field.field_length() > 0,
+    }
+}
+
+/// The null indicator before a value.
+const VALUE_FOLLOWS: u8 = 0;
+
+fn null_indicator(random: &mut Random) -> u8 {
+    match random.below(3) {
+        0 => random.between(0x80, 0xFF) as u8,
+        _ => random.pick(&[0x80, 0x81, 0xC0, 0xFF]),
+    }
+}
+
+/// A null indicator that is neither a value's nor a null's.
+fn bad_indicator(random: &mut Random) -> u8 {
+    match random.below(3) {
+        0 => random.between(0x01, 0x7F) as u8,
+        _ => random.pick(&[0x01, 0x40, 0x7F]),
+    }
 }
 
 fn item(random: &mut Random, field: &Field) -> Vec<u8> {
@@ -45,9 +82,9 @@ fn item(random: &mut Random, field: &Field) -> Vec<u8> {
         return value(random, field);
     }
     if random.one_in(3) {
-        return vec![random.pick(&[0x80, 0x81, 0xFF, 0xC0])];
+        return vec![null_indicator(random)];
     }
-    let mut item = vec![indicator(random)];
+    let mut item = vec![VALUE_FOLLOWS];
     item.extend(value(random, field));
     item
 }

@@ -99,6 +99,31 @@ fn values_of_every_kind_are_asked() {
     }
 }
 
+/// Bad indicators at the front and behind other items, also of rows to the end; and good blocks all
+/// the same.
+#[test]
+fn bad_indicators_are_met() {
+    let [mut good, mut first, mut later, mut in_rows] = [0; 4];
+    for case in Generator::new(6).take(5_000) {
+        let Ok(unfolding) = unfold(&case.descriptor) else {
+            continue;
+        };
+        match walk(&unfolding, &case.data) {
+            Ok(_) => good += 1,
+            Err(refusal) if refusal.number == BAD_INDICATOR => {
+                let is_first = refusal.place == 0;
+                first += u32::from(is_first);
+                later += u32::from(!is_first);
+                in_rows += u32::from(!is_first && unfolding.rows.is_some());
+            }
+            Err(_) => {}
+        }
+    }
+    assert!(good >= 2_500, "{good}");
+    let met = [first, later, in_rows];
+    assert!(met.iter().all(|&times| times >= 30), "{met:?}");
+}
+
 #[test]
 fn most_cases_are_small() {
     let is_small = |case: &Case| {

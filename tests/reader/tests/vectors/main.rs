@@ -7,6 +7,7 @@ mod examples;
 mod floats;
 mod generator;
 mod groups;
+mod indicators;
 mod limits;
 mod packed;
 mod parts;

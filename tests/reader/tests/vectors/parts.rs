@@ -127,7 +127,7 @@ fn starts(case: &Case) -> Option<Vec<usize>> {
 }
 
 /// Short good blocks, with the starts of their items and their ends.
-fn blocks(seed: u64) -> impl Iterator<Item = (Case, Vec<usize>)> {
+pub fn blocks(seed: u64) -> impl Iterator<Item = (Case, Vec<usize>)> {
     let is_short = |case: &Case| case.data.len() <= 200;
     let cases = Generator::new(seed).take(20_000).filter(is_short);
     let blocks = cases.filter_map(|case| starts(&case).map(|starts| (case, starts)));

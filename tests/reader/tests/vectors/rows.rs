@@ -218,6 +218,7 @@ const BAD_ITEMS: &str = "
 0C70B102 0000000000010002 | 0000 | FFFF   | 14
 0C70B103 0000000000010002 | 00   | 414141 | 15
 0C70B182 0000000000010002 | 80   | 00     | 13
+0C70B182 0000000000010002 | 80   | 7F     | 24
 ";
 
 #[test]
@@ -269,7 +270,7 @@ fn refusals_of_whole_numbers_come_in_order() {
 #[test]
 fn whole_numbers_of_rows() {
     let descriptor = hex("0C70B1A4 0000000000000002 0971A1 B10001 B10000");
-    let data = hex("00 FEFF 80 00 0080 7F 0100");
+    let data = hex("00 FEFF 80 00 0080 00 0100");
     let numbers = [Some(-2), None, Some(-32_768), Some(1)];
     for (item, value) in (0..).zip(numbers) {
         let expected = Whole {

@@ -181,22 +181,27 @@ pub fn assert_blocks<'t>(rows: impl IntoIterator<Item = BlockRow<'t>>) {
     }
 }
 
-/// Asserts blocks of one plain item with the item made nullable, behind an indicator.
+/// Asserts blocks of one plain item with the item made nullable, behind an indicator, good and bad.
 pub fn assert_behind_indicator<'t>(rows: impl IntoIterator<Item = BlockRow<'t>>) {
     for [name, descriptor, data, answer] in rows {
         assert_nullable(name, &hex(descriptor), &hex(data), Answer::parse(answer));
     }
 }
 
-/// Asserts a block of one plain item with the item made nullable, behind an indicator.
+/// Asserts a block of one plain item with the item made nullable, behind an indicator, good and
+/// bad. A refused descriptor comes before both.
 pub fn assert_nullable(name: &str, plain: &[u8], data: &[u8], answer: Answer) {
     assert!(!is_nullable(plain), "{name}");
     let mut descriptor = plain.to_vec();
     descriptor[3] |= 0x80;
     let answer = answer.after_indicator();
-    for indicator in [0x00, 0x01, 0x7F] {
+    let bad = match check(&descriptor) {
+        Ok(_) => Answer::parse("refused 24 0"),
+        Err(_) => answer.clone(),
+    };
+    for (indicator, answer) in [(0x00, &answer), (0x01, &bad), (0x7F, &bad)] {
         let data = [&[indicator], data].concat();
-        assert_block(name, &descriptor, &data, &answer);
+        assert_block(name, &descriptor, &data, answer);
     }
 }
 

@@ -128,7 +128,7 @@ fn nulls() -> Vec<Case> {
     cases
 }
 
-/// Values behind an indicator, with a sign and without.
+/// Values behind an indicator and behind a bad one, with a sign and without.
 fn nullable_values() -> Vec<Case> {
     let mut cases = Vec::new();
     for count in COUNTS {

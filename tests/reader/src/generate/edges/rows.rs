@@ -277,7 +277,7 @@ fn pair() -> Vec<u8> {
 }
 
 /// Three passes of such rows, of 5, 3 and 2 bytes.
-const PASSES: [u8; 10] = [0, 9, 0x7F, 0x80, 0, 0, 7, 0xFF, 0x80, 0x80];
+const PASSES: [u8; 10] = [0, 9, 0, 0x80, 0, 0, 7, 0xFF, 0x80, 0x80];
 
 /// Pairs cut at each byte, lists around the needed size, and item numbers around the count.
 fn pairs() -> Vec<Case> {
@@ -385,7 +385,7 @@ fn numbers() -> Vec<Case> {
 /// Nulls and values of a field that has no bytes but its indicator.
 fn nulls() -> Vec<Case> {
     let rows = repeated(&sda_of(3, 0x81, plain_parameters(0, 0), &[]));
-    let data = [0x80, 0, 0xFF, 0x7F, 0x80];
+    let data = [0x80, 0, 0xFF, 0, 0x80];
     (0..=6)
         .flat_map(|item| [12, 11].map(|list| case(&rows, &data, list, item)))
         .collect()
