@@ -65,9 +65,9 @@ extern "C" {
  * would come again and no data are left. So descriptor and data together tell how many items the block has.
  *
  * The reasons are tried in this order: 1; the triplets from left to right, each by rising number from 2 to 10, with 8, 9
- * and 10 taken group by group, 21 right after 8, and 22 right after 9; 11; 12; the items in order, by 13 to 15; 16; 17; 18;
- * 20 or 23. With rows to the end 12 comes only after the items, 16 never, and an item past FDOCA_MAX_ITEMS is refused by 10
- * before it is measured.
+ * and 10 taken group by group, 21 right after 8, and 22 right after 9; 11; 12; the items in order, by 13 to 15, and by 24 as
+ * soon as the null indicator is there, before anything behind it; 16; 17; 18; 20 or 23. With rows to the end 12 comes only
+ * after the items, 16 never, and an item past FDOCA_MAX_ITEMS is refused by 10 before it is measured.
  */
 enum fdoca_number {
     /* Nothing is wrong. Place: 0. */
@@ -152,12 +152,17 @@ enum fdoca_number {
     /* A float has no equal double: it is an infinity or a NaN, which a binary float is by its characteristic, 255 of 4 bytes
      * or 2047 of 8; or it is a hexadecimal one of 8 bytes with more than 53 bits from its first 1 to its last. fdoca_value
      * alone looks at these, in the one item that it reads. Place: the item. */
-    FDOCA_NO_EXACT_FLOAT = 23
+    FDOCA_NO_EXACT_FLOAT = 23,
+
+    /* An item's null indicator is X'01' to X'7F', which is neither that of a value, X'00', nor one of a null, X'80' to
+     * X'FF'. Before this number came, only the high bit was looked at, and such items were values. Place: the item. */
+    FDOCA_INVALID_INDICATOR = 24
 };
 
 /*
  * The field types: the type code, in decimal with that of the nullable form behind it, and what the value of an item is. A
- * nullable form has the code plus X'80'; its items begin with a null indicator of one byte, and only they can be null. Which
+ * nullable form has the code plus X'80'; its items begin with a null indicator of one byte, and only they can be null. The
+ * indicator X'00' means that a value follows, X'80' to X'FF' that the item is null, and the others are refused by 24. Which
  * characters the bytes of a string stand for is not told.
  *
  * A float whose SDA gives a field length other than 4, 8 or 16 has the default of its type: 8 bytes if it is hexadecimal,
@@ -205,7 +210,7 @@ uint32_t fdoca_check(const uint8_t *descriptor, size_t descriptor_size, uint32_t
  * call leaves the whole list as it is.
  * list_size: how many entries of 32 bits the list has, at least FDOCA_LIST_SIZE(n). FDOCA_MAX_LIST is enough for any block.
  * What fdoca_check gives is n, but with rows to the end no call tells n before this one: have FDOCA_MAX_LIST entries then.
- * Refuses by 1 to 16, 21 and 22.
+ * Refuses by 1 to 16, 21, 22 and 24.
  */
 uint32_t fdoca_list(const uint8_t *descriptor, size_t descriptor_size, const uint8_t *data, size_t data_size,
                     uint32_t *list, size_t list_size, uint32_t *place);
@@ -222,7 +227,7 @@ uint32_t fdoca_list(const uint8_t *descriptor, size_t descriptor_size, const uin
  * spare: how many bytes stand behind the value: the zero byte behind a terminated string, which is no room for text, and what
  * a string leaves of the space that is reserved for it.
  * The three add up to the item's length. A null is its indicator alone: 1, 0 and 0. A refusal gives three zeros.
- * Refuses by 1 to 11, 13 to 17, 21 and 22.
+ * Refuses by 1 to 11, 13 to 17, 21, 22 and 24.
  */
 uint32_t fdoca_state(const uint8_t *descriptor, size_t descriptor_size, const uint8_t *data, size_t data_size,
                      uint32_t item, uint32_t *place, uint32_t *is_null, uint32_t *type_code, uint32_t *lead,
@@ -235,7 +240,7 @@ uint32_t fdoca_state(const uint8_t *descriptor, size_t descriptor_size, const ui
  * offset: where the value begins, behind the item's lead; that of a null is right behind its null indicator.
  * length: how many bytes it has, as fdoca_state tells; 0 if the item is null.
  * Neither offset nor offset + length is over data_size, also on a refusal.
- * Refuses by 1 to 11, 13 to 17, 21 and 22, as fdoca_state does.
+ * Refuses by 1 to 11, 13 to 17, 21, 22 and 24, as fdoca_state does.
  */
 uint32_t fdoca_lend(const uint8_t *descriptor, size_t descriptor_size, const uint8_t *data, size_t data_size,
                     uint32_t item, uint32_t *place, uint32_t *offset, uint32_t *length);
@@ -246,7 +251,7 @@ uint32_t fdoca_lend(const uint8_t *descriptor, size_t descriptor_size, const uin
  * item: the item's number, from 0.
  * is_null: 1 if the item is null, else 0.
  * value: the item's value, 0 if it is null.
- * Refuses by 1 to 11, 13 to 18, 21 and 22.
+ * Refuses by 1 to 11, 13 to 18, 21, 22 and 24.
  */
 uint32_t fdoca_whole_number(const uint8_t *descriptor, size_t descriptor_size, const uint8_t *data, size_t data_size,
                             uint32_t item, uint32_t *place, uint32_t *is_null, int64_t *value);
@@ -260,7 +265,7 @@ uint32_t fdoca_whole_number(const uint8_t *descriptor, size_t descriptor_size, c
  * value: the whole number of its digits and sign, 0 if it is null. Minus zero is 0.
  * fraction_digits: how many of the digits, counted from the last, are a fraction; told of a null too. The quantity is the
  * value divided by 10 to the power of fraction_digits.
- * Refuses by 1 to 11, 13 to 18 and 20 to 22.
+ * Refuses by 1 to 11, 13 to 18, 20 to 22 and 24.
  */
 uint32_t fdoca_packed(const uint8_t *descriptor, size_t descriptor_size, const uint8_t *data, size_t data_size,
                       uint32_t item, uint32_t *place, uint32_t *is_null, int64_t *value, uint32_t *fraction_digits);
@@ -275,7 +280,7 @@ uint32_t fdoca_packed(const uint8_t *descriptor, size_t descriptor_size, const u
  * infinity or a NaN: what has no equal double is refused by 23. A zero keeps its sign, so it may be -0.0.
  * Of the floats the call reads the binary ones with the bias indicator 0 and the hexadecimal ones of 4 or 8 bytes. Those with
  * the bias indicator 1 or of 16 bytes, strings and packed decimals are refused by 18, null or not.
- * Refuses by 1 to 11, 13 to 18 and 21 to 23.
+ * Refuses by 1 to 11, 13 to 18 and 21 to 24.
  */
 uint32_t fdoca_value(const uint8_t *descriptor, size_t descriptor_size, const uint8_t *data, size_t data_size,
                      uint32_t item, uint32_t *place, uint32_t *kind, int64_t *whole, double *real);
@@ -354,6 +359,8 @@ static inline const char *fdoca_text(uint32_t number)
         return "rows to the end take no bytes";
     case FDOCA_NO_EXACT_FLOAT:
         return "value has no equal 64-bit float";
+    case FDOCA_INVALID_INDICATOR:
+        return "null indicator not valid";
     default:
         return "unknown number";
     }

@@ -8,6 +8,7 @@ for file in examples/*.fdo; do
     case $name in
     byte-left) words=$(refused 16 "the first byte left over is $(in_data 5 18)") ;;
     byte-missing) words=$(refused 13 "the item that starts at $(in_data 4 18)") ;;
+    odd-indicator) words=$(refused 24 "the item that starts at $(in_data 34 54)") ;;
     refers-forward) words=$(refused 8 "the triplet that starts at $(in_descriptor 0)") ;;
     wrong-size) words=$(refused 19 'its two sizes ask for 18 bytes of descriptor and 5 of data, 31 bytes with the sizes, and it has only 30') ;;
     esac
@@ -73,6 +74,9 @@ item 13 8 "0C70B1400000000000000000$twice" 416800000000000041680000000000
 item 13 4 "${S}0975D1B10000B10001" 0061626300
 item 14 3 "0C70B1020000000000010004$twice" 0001610005
 item 15 2 "0C70B1030000000000010002$twice" 6100616263
+item 24 0 "$S$twice" 01
+item 24 4 "$S$twice" 006162637F616263
+item 24 3 "0C70B1A30000000000000002$twice" 0000074000
 refuses 16 5 "the first byte left over is $(in_data 5 18)" "$S$twice" 006162638000
 many=$(for id in {1..30}; do printf '0C70%02X010000000000000003' "$id"; done)
 item 13 0 "$many" 6162
@@ -89,6 +93,7 @@ expect 'no row' 0 'items 0 bytes 0' '' ./dump "$work/block"
 block "$work/block" "$rows" 006162638000414243
 expect 'three rows' 0 $'items 3 bytes 9\n0 0 129 3\n1 4 129 null\n2 5 129 3' '' ./dump "$work/block"
 item 13 5 "$rows" 00616263800041
+item 24 5 "$rows" 00616263800141
 too_many='the first one too many starts at'
 refuses 10 4096 "$too_many $(in_data 4096 18)" "$rows" "$(printf '80%.0s' {1..4097})"
 refuses 10 0 "$too_many $(in_data 0 45)" 0C70B10100000000000000000671A1B100400671A2A10040"${S/B1/B2}"0971A3A20001B20000 80

@@ -1,6 +1,6 @@
 /*
- * Tests of the C calls: checks and lists, refusals of every call, limits. GDAs are in columns.c, rows to the end in rows.c.
- * The last line printed is "N passed, M failed", and the exit status is 0 if none failed.
+ * Tests of the C calls: checks and lists, refusals of every call, limits. GDAs are in columns.c, rows to the end in rows.c,
+ * null indicators in indicators.c. The last line printed is "N passed, M failed", and the exit status is 0 if none failed.
  */
 #include "support.h"
 
@@ -185,6 +185,8 @@ static const struct refusal_case refusals[] = {
     {"second item without an end", Z("01", "0002") "0671A1B10002", "4100414243", 15, 2},
     {"no data", S("23", "0002"), "", 13, 0},
     {"surplus", S("01", "0000"), "00", 16, 0},
+    {"odd indicator", S("81", "0003"), "01616263", 24, 0},
+    {"odd indicator of the dump's block", S("81", "0003") "0671A1B10002", "006162637F", 24, 4},
     {"packed decimal, cut", S("30", "0400"), "0123", 13, 0},
     {"nullable packed decimal, cut", S("B0", "0400"), "000123", 13, 0},
     {"bad digits, then a cut item", S("30", "0300") "0671A1B10002", "FFFF12", 13, 2},
@@ -293,6 +295,7 @@ static const uint32_t numbers[] = {
     FDOCA_COLUMN_MISFIT,
     FDOCA_ZERO_WIDTH_REPEAT,
     FDOCA_NO_EXACT_FLOAT,
+    FDOCA_INVALID_INDICATOR,
 };
 
 /* Each name has its number, and each number words of its own; those past the last share words that no other has. */
@@ -300,7 +303,7 @@ static void test_words(void)
 {
     const uint32_t unknown = COUNT(numbers);
 
-    expect(unknown == 24, "words", "24 numbers");
+    expect(unknown == 25, "words", "25 numbers");
     for (uint32_t n = 0; n < unknown; n++) {
         bool own = fdoca_text(n)[0] != '\0';
 

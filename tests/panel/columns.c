@@ -262,6 +262,7 @@ static const struct refusal_case refusals[] = {
     {"terminated, no zero byte", M("03", "01", "0004") "0675D1B10002", "41424300", 15, 0},
     {"terminated, free at first", M("83", "01", "0000") "0975D1B10002B10001", "0041420000414200", 15, 4},
     {"terminated, mode 0, cut", M("03", "00", "0001") "0675D1B10003", "410000", 13, 0},
+    {"odd indicator, L above the length", M("82", "01", "0004") "0675D1B10002", "010003414243", 24, 0},
 };
 
 static void test_refusals(void)

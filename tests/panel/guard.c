@@ -68,7 +68,7 @@ static uint8_t *descriptors, *blocks, *lists;
 
 static struct view at_end, at_beginning;
 static const char *placement;
-static unsigned long cases, large_descriptors, large_blocks, met[FDOCA_NO_EXACT_FLOAT + 1];
+static unsigned long cases, large_descriptors, large_blocks, met[FDOCA_INVALID_INDICATOR + 1];
 
 /* What the next call is given, and what it gave. */
 static const uint8_t *d, *s;

@@ -1,8 +1,8 @@
 /*
  * Tests of the C calls that tell of one item: its state, where its value lies, its whole number. What these calls refuse
  * alike is in calls.c, the reading of packed decimals in packed.c and of floats in values.c, every length of floats in
- * floats.c, items whose length a GDA gives in columns.c. The last line printed is "N passed, M failed", and the exit status
- * is 0 if none failed.
+ * floats.c, every null indicator in indicators.c, items whose length a GDA gives in columns.c. The last line printed is
+ * "N passed, M failed", and the exit status is 0 if none failed.
  */
 #include "support.h"
 
@@ -19,7 +19,7 @@ static const struct item_case strings[] = {
     {"fixed", S("01", "0003"), "616263", 0, 0, 0, 0x01, 0, 3, 0},
     {"fixed, no bytes", S("01", "0000"), "", 0, 0, 0, 0x01, 0, 0, 0},
     {"fixed, nullable", S("81", "0003"), "00616263", 0, 0, 0, 0x81, 1, 3, 0},
-    {"fixed, low bits of the indicator", S("81", "0001"), "7F61", 0, 0, 0, 0x81, 1, 1, 0},
+    {"fixed, nullable, a byte", S("81", "0001"), "0061", 0, 0, 0, 0x81, 1, 1, 0},
     {"fixed, nullable, no bytes", S("81", "0000"), "00", 0, 0, 0, 0x81, 1, 0, 0},
     {"fixed, null", S("81", "0003"), "80", 0, 0, 1, 0x81, 1, 0, 0},
     {"fixed, null with low bits", S("81", "0003"), "FF", 0, 0, 1, 0x81, 1, 0, 0},

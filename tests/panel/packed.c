@@ -35,7 +35,7 @@ static const struct packed_case values[] = {
     {"minus zero, sign B", S("30", "0202"), "000B", 0, 0, 0, 0, 0, 2},
     {"minus zero, 18 digits", S("30", "1212"), "0000000000000000000D", 0, 0, 0, 0, 0, 18},
     {"nullable", S("B0", "0302"), "00125D", 0, 0, 0, 0, -125, 2},
-    {"nullable, low bits of the indicator", S("B0", "0403"), "7F01250C", 0, 0, 0, 0, 1250, 3},
+    {"nullable, 4 digits", S("B0", "0403"), "0001250C", 0, 0, 0, 0, 1250, 3},
     {"null", S("B0", "0302"), "80", 0, 0, 0, 1, 0, 2},
     {"null, low bits of the indicator", S("B0", "1212"), "FF", 0, 0, 0, 1, 0, 18},
     {"null without fraction digits", S("B0", "0300"), "80", 0, 0, 0, 1, 0, 0},
@@ -51,6 +51,9 @@ static const struct packed_case spoiled[] = {
     {"nullable, its sign", S("B0", "0301") "0671A1B10002", "80001230", 1, 20, 1, 0, 0, 0},
     {"beside a value", S("B0", "0301") "0671A1B10003", "00123C0012AC80", 0, 0, 0, 0, 123, 1},
     {"beside a null", S("B0", "0301") "0671A1B10003", "00123C0012AC80", 2, 0, 0, 1, 0, 1},
+    {"odd indicator", S("B0", "0403"), "7F01250C", 0, 24, 0, 0, 0, 0},
+    {"odd indicator before bad digits", S("B0", "0301"), "01FFFF", 0, 24, 0, 0, 0, 0},
+    {"odd indicator behind bad digits", S("B0", "0301") "0671A1B10002", "00FFFF40123C", 0, 24, 3, 0, 0, 0},
 };
 
 /* Three rows of a name, a packed decimal and a whole number: a value, a null, bad digits. They start at 0, 5, 9; 11, 14, 15;

@@ -273,6 +273,7 @@ static const struct refusal_case refusals[] = {
     {"reserved space of the second item cut", TWICE, ITEM "000001410000", 13, 7},
     {"L above F in the second item", TWICE, ITEM "00000541424344", 14, 7},
     {"L negative in the second item", TWICE, ITEM "00FFFF41424344", 14, 7},
+    {"odd indicator of the second item", TWICE, ITEM "01000141000000", 24, 7},
     {"no zero byte in the second item", NAME F("B2", "03", "00", "0002") "0971A1B10001B20001", ITEM "414243", 15, 7},
     {"a byte behind two items", TWICE, ITEM "80" "00", 16, 8},
     {"second row cut", NAME "0671A1B10000", ITEM "0000", 13, 7},

@@ -324,6 +324,7 @@ static const struct refusal_case broken[] = {
     {"no item before the rows", W "0971A1B10002B10000", "", 13, 0},
     {"an item behind one without bytes", W EMPTY "0971A1B20001B10001" "0671A2A10000", "000100", 13, 2},
     {"bytes behind a null", S("81", "0003") "0671A1B10000", "800041", 13, 1},
+    {"odd indicator", S("81", "0003") "0671A1B10000", "8001414243", 24, 1},
     {"L above F", M("02", "01", "0004") "0671A1B10000", "0001410005", 14, 3},
     {"L negative", M("02", "01", "0000") "0671A1B10000", "000141FFFF41", 14, 3},
     {"short, L above F", M("07", "01", "0002") "0671A1B10000", "014103414243", 14, 2},

@@ -364,7 +364,8 @@ static const struct field_case other_fields[] = {
     {"characteristic 255, bias indicator 1", BIAS("48", "0004"), "7F800000", REFUSED(18, 1)},
 };
 
-/* An item of the field, in a row behind a string of a byte: its bytes stand behind that and what else is given. */
+/* An item of the field, in a row behind a string of a byte: its bytes stand behind that and what else is given. With an odd
+ * indicator there is no block, whatever item is asked for. */
 static void expect_field(const struct field_case *c, uint8_t nullable, const char *before, const char *data,
                          struct value expected, const char *group)
 {
@@ -374,11 +375,12 @@ static void expect_field(const struct field_case *c, uint8_t nullable, const cha
     snprintf(block, sizeof block, "41%s%s", before, data);
 
     struct bytes d = hex(descriptor), s = hex(block);
+    bool is_block = expected.number != 24;
 
     d.at[12 + 3] |= nullable;
     expect(value_gives(d, s, 1, expected), group, c->name);
-    expect(value_gives(d, s, 0, (struct value)REFUSED(18, 0)), "the byte before", c->name);
-    expect(value_gives(d, s, 2, (struct value)REFUSED(17, 0)), "no item behind", c->name);
+    expect(value_gives(d, s, 0, is_block ? (struct value)REFUSED(18, 0) : expected), "the byte before", c->name);
+    expect(value_gives(d, s, 2, is_block ? (struct value)REFUSED(17, 0) : expected), "no item behind", c->name);
     free(d.at);
     free(s.at);
 }
@@ -389,10 +391,12 @@ static void test_fields(const struct field_case *cases, size_t count)
     for (size_t i = 0; i < count; i++) {
         const struct field_case *c = &cases[i];
         const struct value null = NO_VALUE, value_of_null = c->value.number == 18 ? c->value : null;
+        const struct value odd = REFUSED(24, 1);
 
         expect_field(c, 0, "", c->data, c->value, "field");
         expect_field(c, 0x80, "00", c->data, c->value, "nullable field");
-        expect_field(c, 0x80, "7F", c->data, c->value, "low bits of the indicator");
+        expect_field(c, 0x80, "01", c->data, odd, "odd indicator");
+        expect_field(c, 0x80, "7F", c->data, odd, "odd indicator, all low bits");
         expect_field(c, 0x80, "80", "", value_of_null, "null");
         expect_field(c, 0x80, "FF", "", value_of_null, "null with low bits");
     }
@@ -504,6 +508,7 @@ static const struct value_case before[] = {
     {"second row cut", INFINITE "0671A1B10000", "7F8000007F80", 0, REFUSED(13, 4)},
     {"L above F behind it", INFINITE "0C70B20200000000000100010971A1B10001B20001", "7F8000000002", 0, REFUSED(14, 4)},
     {"no zero byte behind it", INFINITE "0C70B20300000000000100010971A1B10001B20001", "7F8000004141", 0, REFUSED(15, 4)},
+    {"odd indicator behind it", INFINITE "0C70B28100000000000000000971A1B10001B20001", "7F80000001", 0, REFUSED(24, 4)},
     {"a byte behind it", INFINITE, "7F80000000", 0, REFUSED(16, 4)},
     {"no such item", INFINITE, "7F800000", 1, REFUSED(17, 0)},
     {"the highest number", INFINITE, "7F800000", UINT32_MAX, REFUSED(17, 0)},
