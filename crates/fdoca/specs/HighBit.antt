@@ -32,8 +32,8 @@ walkWith measuring p (f ∷ fs) s =
     walkWith measuring (p + itemLength n) fs (drop (itemLength n) s) >>= λ ns.
     ok (n ∷ ns)
 
--- A block that is accepted by some way of measuring, and its items: descriptor and data are, and the data is the items of the unfolding; with rows to the
--- end, of the unfolding with some number of passes.
+-- A block that is accepted by some way of measuring, and its items: the descriptor is accepted, and the data, within its limit, is the items of the
+-- unfolding; with rows to the end, of the unfolding with some number of passes, at most 4,096 items.
 pub record AcceptedWith (measuring : Field → List ℕ → Measured) (d s : List ℕ) (ns : List Note) : Type 0 where
   pub count : ℕ
   pub checks : check d ≡ ok count
