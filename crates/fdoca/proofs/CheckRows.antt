@@ -26,7 +26,7 @@ use Rattle.fdoca.proofs.Triplets.{triplets_empty, triplets_end, triplets_short, 
 use Rattle.fdoca.proofs.TripletBytes.{bytes_of}
 use Rattle.fdoca.proofs.TripletTests.{Tells}
 use Rattle.fdoca.proofs.TripletRows.{Clear, Judged, refused, passed, first_step, one_number, group_of_lem}
-use Rattle.fdoca.proofs.Counting.{up_in_row}
+use Rattle.fdoca.proofs.Counting.{up_in_row, last_counted}
 use Rattle.fdoca.proofs.Groups.{Known}
 use Rattle.fdoca.proofs.TripletSteps.{Before, no_row, closed_known, judge_triplet}
 use Rattle.fdoca.proofs.Ending.{place_next, endless_no_data, no_data_endless, over_at, endless_group_lem, not_before, adds_nothing, ending, endless_at, referred, last_there, last_place_lem}
@@ -184,7 +184,8 @@ module _ (d : List ℕ) (small : length d ≤ max_descriptor) where
 
       -- 10 is not told of a group that repeats to the end
       not_too_many : {k : ℕ} → g ≡ suc k → Endless d j k → TooManyUpTo d j k → ⊥
-      not_too_many {k} e (no_data_lem a b y z f rep nd) (of_row (group u x w) o) =
+      not_too_many {k} e (no_data_lem a b y z f rep nd) (of_row up o) =
+          let (m₁, m₂, u, x, w, sum) = last_counted up in
           let q = adds_nothing d a b f (up_in_row u) w in
           let (i, k', t, l) = over_at d u (omega arith) in
           go i k' t l

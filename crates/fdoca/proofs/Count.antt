@@ -64,6 +64,8 @@ fitting g (U.row l) h = absurd (true≢false h)
 
 length_column : (g : Group) (d : U.Described) → Fitting g d → 1 ≡ length (U.column_referred g (some d))
 length_column g (U.array f []) (single h) = refl
+length_column g (U.array f (_ ∷ _)) x5 = elim x5 [ ]
+length_column g (U.row _) x3 = elim x3 [ ]
 
 count_added_lem : (kind : Kind) (ends : Bool) (p : ℕ) (g : Group) (d : U.Described)
     → IfOk (λ k. k ≡ length (U.fields_added kind g (some d))) (C.count_added kind ends p g (entry d))

@@ -3,10 +3,10 @@
 -- Assumes nothing.
 use mathlib.Core.Path.{◌≡◌, refl, ap}
 use mathlib.Core.Logic.{◌≢◌}
-use Prim.Native.Nat.{ℕ, zero, suc, ◌*◌, ◌≤◌, ◌<◌}
+use Prim.Native.Nat.{ℕ, zero, suc, ◌+◌, ◌*◌, ◌≤◌, ◌<◌}
 use native.Mathlib.Omega.{arith}
 use mathlib.Core.List.{List}
-use Rattle.fdoca.specs.Reasons.{length_byte, rlo_byte, gda_byte, cpt_byte, Is, Describes, InRow, taken, factor, Refers, extent, Lower, one, two, three, Counts, single, array, row, Adds, kept, replaced, column, UpTo, start, group, continued}
+use Rattle.fdoca.specs.Reasons.{length_byte, rlo_byte, gda_byte, cpt_byte, Is, Describes, InRow, taken, factor, Refers, extent, Lower, one, two, three, Counts, single, array, row, Adds, kept, replaced, column, HasGroup, UpTo, start, group, continued}
 use Rattle.fdoca.proofs.Tests.{by_order}
 use Rattle.fdoca.proofs.TripletTests.{clash, row_clash}
 
@@ -84,17 +84,37 @@ module _ {d : List ℕ} where
     adds_same (column w) (replaced v b h i l) = not_both v w
     adds_same (column w) (column v) = refl
 
-  up_same : {r j k n m : ℕ} → Unique d r → Same d r → UpTo d r j k n → UpTo d r j k m → n ≡ m
-  up_same x y (start i) (start h) = refl
-  up_same x y (start i) (continued u e h) = absurd (row_clash i h (omega arith) (omega arith))
-  up_same x y (group {r = r} {n = n} {m = a} u g p) (group {n = m} {m = b} v h q) =
-      let e₁ : n ≡ m = up_same x y u v in
-      let e₂ : a ≡ b = adds_same r x y p q in
+  up_same_at : {r j k n q i l m : ℕ} → Unique d r → Same d r → UpTo d r j k n → UpTo d q i l m → q ≡ r → i ≡ j → l ≡ k → n ≡ m
+  up_same_at x y (start i) (start h) a b c = refl
+  up_same_at x y (start i) (group v h q) a b c = absurd (let z : ⊥ = omega arith in z)
+  up_same_at x y (start i) (continued u e h) a b c = absurd (row_clash i (rw b at h) (omega arith) (omega arith))
+  up_same_at x y (group u g p) (start h) a b c = absurd (let z : ⊥ = omega arith in z)
+  up_same_at x y (group {r = r} {k = k} {n = n} {m = s} u g p) (group {k = l} {n = m} {m = t} v h q) a b c =
+      let l≡k : l ≡ k = omega arith in
+      let e₁ : n ≡ m = up_same_at x y u v a b l≡k in
+      let e₂ : s ≡ t = adds_same r x y p (rw (a, b, l≡k) at q) in
       rw (e₁, e₂)
-  up_same x y (continued u e i) (start h) = absurd (row_clash h i (omega arith) (omega arith))
-  up_same x y (continued {k = k} u e i) (continued {k = l} v f h) =
-      let k≡l : k ≡ l = omega arith in
-      up_same x y u (rw k≡l v)
+  up_same_at x y (group u g p) (continued v f h) a b c = absurd (let z : ⊥ = omega arith in z)
+  up_same_at x y (continued u e i) (start h) a b c = absurd (row_clash (rw b at h) i (omega arith) (omega arith))
+  up_same_at x y (continued u e i) (group v h q) a b c = absurd (let z : ⊥ = omega arith in z)
+  up_same_at x y (continued {j = j} {k = k} u e i) (continued {j = o} {k = l} v f h) a b c =
+      let o≡j : o ≡ j = omega arith in
+      let l≡k : l ≡ k = omega (arith, ap (length_byte d) o≡j) in
+      up_same_at x y u v a o≡j l≡k
+
+  up_same : {r j k n m : ℕ} → Unique d r → Same d r → UpTo d r j k n → UpTo d r j k m → n ≡ m
+  up_same x y u v = up_same_at x y u v refl refl refl
+
+  -- the last group that a row counts
+  last_group_at : {r j k l n : ℕ} → UpTo d r j l n → l ≡ suc k → (a : ℕ) × (b : ℕ) × UpTo d r j k a × HasGroup d j k × Adds d r j k b × (n ≡ a + b)
+  last_group_at (start h) e = absurd (let z : ⊥ = omega arith in z)
+  last_group_at {k = k} (group {k = i} {n = a} {m = b} u g p) e =
+      let q : i ≡ k = omega arith in
+      (a, b, rw q at u, rw q at g, rw q at p, refl)
+  last_group_at (continued u f h) e = absurd (let z : ⊥ = omega arith in z)
+
+  pub last_counted : {r j k n : ℕ} → UpTo d r j (suc k) n → (a : ℕ) × (b : ℕ) × UpTo d r j k a × HasGroup d j k × Adds d r j k b × (n ≡ a + b)
+  last_counted u = last_group_at u refl
 
   row_same : {r n m : ℕ} → Unique d r → Same d r → Counts d r n → Counts d r m → n ≡ m
   row_same x y (single i e) (single h f) = refl

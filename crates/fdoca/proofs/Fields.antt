@@ -11,7 +11,7 @@ use mathlib.Core.Option.{Option, none, some}
 use lib.Dec.{ltb, eqb}
 use borrow.Author.Tests.{not-false}
 use lib.ListN.{length, drop, replicate, get_elem?}
-use Rattle.fdoca.specs.Basics.{if◌then◌else◌, elem, lookup, is_empty, repeat, product, Result, ok, ◌>>=◌, ◌>>◌, the}
+use Rattle.fdoca.specs.Basics.{if◌then◌else◌, elem, lookup, is_empty, repeat, product, Result, ok, the}
 use Rattle.fdoca.specs.FieldType.{FieldType, fixed_bytes, variable_bytes, terminated_bytes, short_bytes, integer, reversed_integer, packed_decimal, hex_float, reversed_float, binary_float, Layout, fixed, counted, terminated, Size, bytes, digits, Sizes, up_to, one_of, digits_up_to, size_of, allows, replaces, type_of, rule_of, nullable}
 use Rattle.fdoca.specs.Triplet.{Triplet, torn, triplet, triplets, Kind, rlo, gda, Construct, sda, isd, cpt, grouped, construct_of, id_of, code_of, parameters_of, extents_of, Group, taken, factor, groups_of}
 use Rattle.fdoca.specs.Item.{Field, field_length, Measured, refused, item, indicated, measure_fixed, measure_value, measure_nullable, measure_item, measure}
@@ -144,6 +144,8 @@ good_replaced f a b g h = record { typed = g.typed; allowed = go (replaces a b) 
 -- what a group that is not refused adds
 good_column_lem : (x : Group) (D : Described) → Good D → Fitting x D → AllGood (column_referred x (some D))
 good_column_lem x (array f []) g (single h) = cons (good_replaced f x.byte1 x.byte2 g h) nil
+good_column_lem x (array f (_ ∷ _)) g x8 = elim x8 [ ]
+good_column_lem x (row _) g x5 = elim x5 [ ]
 
 good_added : (kind : Kind) (ends : Bool) (p : ℕ) (x : Group) (D : Described) → Good D
     → IfOk (λ k. AllGood (fields_added kind x (some D))) (C.count_added kind ends p x (entry D))

@@ -14,11 +14,22 @@ pub data Told {A : Type 0} (R : List ℕ → ℕ → ℕ → Type 0) : Result A 
   refused : {m p : ℕ} → First R m p → Told R (refuse m p)
   accepted : {a : A} → None R → Told R (ok a)
 
+asymmetric_at : {t u v w : List ℕ} → Earlier t u → Earlier v w → u ≡ v → w ≡ t → ⊥
+asymmetric_at (here {a = a} {b = b} h) (here {a = c} {b = e} k) p q =
+    let l : b ≡ c = cc in let m : e ≡ a = cc in
+    omega arith
+asymmetric_at (here {a = a} {b = b} h) (further {a = c} k) p q =
+    let l : b ≡ c = cc in let m : c ≡ a = cc in
+    omega arith
+asymmetric_at (further {a = a} h) (here {a = c} {b = e} k) p q =
+    let l : a ≡ c = cc in let m : e ≡ a = cc in
+    omega arith
+asymmetric_at (further {t = t} {u = u} h) (further {t = v} {u = w} k) p q =
+    let l : u ≡ v = cc in let m : w ≡ t = cc in
+    asymmetric_at h k l m
+
 asymmetric : {t u : List ℕ} → Earlier t u → Earlier u t → ⊥
-asymmetric (here h) (here k) = omega arith
-asymmetric (here h) (further k) = omega arith
-asymmetric (further h) (here k) = omega arith
-asymmetric (further h) (further k) = asymmetric h k
+asymmetric h k = asymmetric_at h k refl refl
 
 first_unique : {R : List ℕ → ℕ → ℕ → Type 0} {m p n q : ℕ} → First R m p → First R n q → (m ≡ n) × (p ≡ q)
 first_unique {R} {m} {p} {n} {q} a b = go (a.others_later b.turn n q b.reason) (b.others_later a.turn m p a.reason)

@@ -1,7 +1,7 @@
 -- A number and the 64-bit floats: of all floats at most one equals it, its canonical form; and where there is one.
 -- Assumes nothing.
 use mathlib.Core.Path.{◌≡◌, refl, sym, ap, ◌∙◌}
-use Prim.Native.Nat.{ℕ, zero, suc, ◌+◌, ◌-◌, ◌*◌, ◌/◌, ◌%◌, ◌^◌, ◌<◌, ◌≤◌}
+use Prim.Native.Nat.{ℕ, zero, suc, ◌+◌, ◌*◌, ◌/◌, ◌%◌, ◌^◌, ◌<◌, ◌≤◌}
 use native.Mathlib.Nat.{pow-suc, zero-lt-suc, zero-mul, one-mul, mul-one, mul_assoc, mul_right_comm, mul-le-mul_left, mul-pos, mul-div_cancel, eq_of_mul-eq-mul_right}
 use native.Mathlib.Omega.{arith}
 use mathlib.Core.Bool.{Bool, true, false, ◌&&◌}
@@ -83,6 +83,10 @@ unique (fin s m e) (fin t n g) u a c p w x (h, i) (j, k) =
     let A : up e * down g ≡ 2 ^ (ups e + downs g) = rw (pow-add, up_is, down_is) in
     let B : up g * down e ≡ 2 ^ (ups g + downs e) = rw (pow-add, up_is, down_is) in
     same s t u m n e g w x h j (rw (← A, ← B) l)
+unique nan y u a c p w x _ _ = elim w [ ]
+unique (inf _) y u a c p w x _ _ = elim w [ ]
+unique (fin s m e) nan u a c p w x _ _ = elim x [ ]
+unique (fin s m e) (inf _) u a c p w x _ _ = elim x [ ]
 
 -- WHAT 64 BITS HOLD is written so, and its significand is below 2 ^ 53
 
@@ -103,6 +107,8 @@ fits_says s m e t =
 
 fits_written : (x : Float) (s : Bool) (a c : ℕ) → T (fits binary64 x) → HasValue x s a c → Written x
 fits_written (fin s zero e) t a c f h = flat e (eqb→eq (up e * down e) 1 (unfold fits in f))
+fits_written nan t a c f h = elim h [ ]
+fits_written (inf _) t a c f h = elim h [ ]
 fits_written (fin s (suc m) e) t a c f h = (fits_says s m e f).0
 
 fits_small : (s : Bool) (m : ℕ) (e : ℤ) → T (fits binary64 (fin s m e)) → m < 2 ^ 53
@@ -213,6 +219,8 @@ rescaled : (x : Float) (s : Bool) (a c b d : ℕ) → 0 < c → a * d ≡ b * c 
 rescaled (fin t m e) s a c b d p h (v, w) =
     let k : b * 1 * c ≡ a * d = rw mul-one (sym h) in
     (v, mul_assoc m (up e) d ∙ crossed m (up e) (down e) b 1 d a c p w k ∙ ap (λ n. b * n) (one-mul (down e)))
+rescaled nan s a c b d p h x4 = elim x4 [ ]
+rescaled (inf _) s a c b d p h x6 = elim x6 [ ]
 
 -- m times 2 to the a - l is m * 2 ^ p / 2 ^ 1074
 module _ (s : Bool) (m a l p : ℕ) (at : p + l ≡ a + 1074) where
@@ -261,3 +269,5 @@ over_none n o = no_equal_float n (λ x f h. go x f (from_equal x n h))
         not_over n.m m (ups E + downs e) (ups e + downs E)
         (rw (← A, ← B) (sym (mul_assoc n.m (up E) (down e)) ∙ sym h ∙ mul_assoc m (up e) (down E)))
         (fits_small s m e f) o
+    go nan f x3 = elim x3 [ ]
+    go (inf _) f x5 = elim x5 [ ]

@@ -44,6 +44,7 @@ has_type f typed = rw (type_plain f.code f.type typed) at (has_plain f)
 pub plain_of : (c n : ℕ) → c < 128 → OneOf n (c ∷ (c + 0x80) ∷ []) → plain n ≡ c
 plain_of c n h (here e) = rw e (sym (plain_low c h))
 plain_of c n h (there (here e)) = rw e (omega (arith, plain_high (c + 0x80) (omega arith)))
+plain_of c n h (there (there x8)) = elim x8 [ ]
 
 -- the code that a layout's types have, nullable or not
 abbrev fixed_codes : List ℕ
@@ -171,6 +172,7 @@ module _ (f : Field) where
     where
       only : {i m : ℕ} → Seen [] i m → (0 ≤ i) × (i ≡ 0 → m ≡ 13)
       only (missing k e) = omega arith
+      only (bad x4) = elim x4 [ ]
       only (found (no_indicator k) w) = absurd (let z : ⊥ = omega arith in z)
   judged_nullable (b ∷ s) h =
       by_eq (Judged (Seen (b ∷ s))) b _

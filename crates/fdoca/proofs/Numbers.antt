@@ -8,7 +8,7 @@ use mathlib.Core.List.{List}
 use Rattle.fdoca.specs.Basics.{Result, refuse, ok}
 use Rattle.fdoca.specs.Item.{Field}
 use Rattle.fdoca.specs.Calls.{item_at}
-use Rattle.fdoca.specs.Reasons.{OfItem, short_data, bad_indicator, bad_count, no_end, OfItems, item, surplus, OfRows, too_many, OfDescriptor, triplet, endless, nothing_described, OfData, items, rows, OfBlock, descriptor, data_of, OfList, small_list, small_for_rows, OfState, no_such_item, not_in_rows, OfWholeNumber, state, wrong_kind, OfPacked, bad_digit, OfValue, no_exact_float, None}
+use Rattle.fdoca.specs.Reasons.{OfItem, short_data, bad_indicator, bad_count, no_end, OfItems, surplus, OfRows, too_many, OfDescriptor, triplet, endless, nothing_described, OfData, items, rows, OfBlock, descriptor, data_of, OfList, small_list, small_for_rows, OfState, no_such_item, not_in_rows, OfWholeNumber, state, wrong_kind, OfPacked, bad_digit, OfValue, no_exact_float, None}
 use Rattle.fdoca.proofs.TripletRows.{step_range}
 use Rattle.fdoca.proofs.FirstReasons.{Told, refused, accepted, refused_first}
 use Rattle.fdoca.proofs.CallRows.{state_told}

@@ -8,7 +8,7 @@ use mathlib.Core.Bool.{false, true≢false}
 use mathlib.Core.List.{List, [], ◌∷◌, ◌++◌, append_assoc, append-nil}
 use lib.ListN.{length, take, drop, length-append, length-drop, take-append-drop}
 use lib.Seq.{length-take-le}
-use Rattle.fdoca.specs.Basics.{is_empty, repeat, Result, refuse, ok, ◌>>=◌, ◌>>◌}
+use Rattle.fdoca.specs.Basics.{is_empty, repeat, Result, refuse, ok, ◌>>=◌}
 use Rattle.fdoca.specs.Item.{Field, measure}
 use Rattle.fdoca.specs.Walk.{Note, item_length, Cut, note_of, with, cut_from, walk, rows_from, walk_rows}
 use Rattle.fdoca.specs.Reasons.{StartsAt, with_passes, ComesTo}

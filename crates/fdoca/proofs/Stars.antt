@@ -69,6 +69,8 @@ taken_as (suc k) (row l) m e = absurd (let z : ◌≡◌ {A = ℕ} 0 1 = cc in l
 
 column_as : (g : Group) (D : Described) → Fitting g D → Lists gda g D (fields_added gda g (some D))
 column_as g (array f []) (single h) = of_column
+column_as g (array f (_ ∷ _)) x5 = elim x5 [ ]
+column_as g (row _) x3 = elim x3 [ ]
 
 list_as : (kind : Kind) (ends : Bool) (p : ℕ) (g : Group) (D : Described) → IfOk (λ m. Lists kind g D (fields_added kind g (some D))) (C.count_added kind ends p g (entry D))
 unfolding C.count_added

@@ -7,10 +7,10 @@ use native.Mathlib.Omega.{arith}
 use mathlib.Core.Bool.{Bool, true, false}
 use mathlib.Core.List.{List, [], ◌∷◌}
 use Rattle.fdoca.specs.Basics.{Result, refuse, ok, ◌>>◌, reject}
-use Rattle.fdoca.specs.Reasons.{OneOf, place, length_byte, byte_of, NotTorn, sda_byte, rlo_byte, gda_byte, isd_byte, cpt_byte, Is, HasGroups, InRow, UpTo, group, continued, Torn, below_2, past_the_end, UnknownConstruct, OutOfSequence, BadLength, BadParameter, NameTaken, missing, repetition_0, over_row, over_single, no_sda, has_extents, NotCarried, ColumnMisfit, TooManyItems, of_row, OfTriplet, torn, unknown_construct, out_of_sequence, bad_parameter, name_taken, too_many_items, missing_reference, not_carried, column_misfit, too_many_up_to}
+use Rattle.fdoca.specs.Reasons.{OneOf, place, length_byte, byte_of, NotTorn, sda_byte, rlo_byte, gda_byte, isd_byte, cpt_byte, Is, HasGroups, InRow, Torn, below_2, past_the_end, UnknownConstruct, OutOfSequence, BadLength, BadParameter, NameTaken, missing, repetition_0, over_row, over_single, no_sda, has_extents, NotCarried, ColumnMisfit, TooManyItems, of_row, OfTriplet, torn, unknown_construct, out_of_sequence, bad_parameter, name_taken, too_many_items, missing_reference, not_carried, column_misfit, too_many_up_to}
 use Rattle.fdoca.proofs.Tests.{by_order}
 use Rattle.fdoca.proofs.TripletTests.{Tells, clash}
-use Rattle.fdoca.proofs.Counting.{up_in_row, one_row}
+use Rattle.fdoca.proofs.Counting.{up_in_row, one_row, last_counted}
 
 -- triplet j has no reason before the step s of its group g
 abbrev pub Clear : List ℕ → (j g s : ℕ) → Type 0
@@ -149,10 +149,7 @@ module _ {d : List ℕ} {j : ℕ} where
   group_of_lem (column_misfit (no_sda i h g f n)) = (g, in_row_kind i)
   group_of_lem (column_misfit (has_extents i h g f u n)) = (g, in_row_kind i)
   group_of_lem (column_misfit (ColumnMisfit.bad_length i h g f u l n)) = (g, in_row_kind i)
-  group_of_lem (too_many_up_to (of_row u l)) = up_to_group u
-    where
-      up_to_group : {r k n : ℕ} → UpTo d r j (suc k) n → (6 + 3 * k ≤ length_byte d j) × (HasGroups d j ⊎ Is d cpt_byte j)
-      up_to_group (group u g a) = (g, in_row_kind (up_in_row u))
+  group_of_lem (too_many_up_to (of_row u l)) = let q = last_counted u in (q.3, in_row_kind (up_in_row q.2))
 
   -- a step has one number: a row is an RLO's or a GDA's
   pub one_number : {g s m n : ℕ} → OfTriplet d j g s m → OfTriplet d j g s n → m ≡ n

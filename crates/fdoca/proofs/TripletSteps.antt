@@ -114,6 +114,7 @@ known_type (there (here e)) = (T.grouped T.rlo, rw e)
 known_type (there (there (here e))) = (T.grouped T.gda, rw e)
 known_type (there (there (there (here e)))) = (T.isd, rw e)
 known_type (there (there (there (there (here e))))) = (T.cpt, rw e)
+known_type {n = n} (there (there (there (there (there x20))))) = elim x20 [ ]
 
 -- a triplet of a kind has groups, and its type is one of those that a CPT may follow
 headed : {d : List ℕ} {j : ℕ} (kind : Kind) → Is d (kind_byte kind) j → HasGroups d j
@@ -133,6 +134,7 @@ not_followed : {d : List ℕ} {c j : ℕ} → Is d c j → c ≢ rlo_byte → c 
 not_followed is a b e (here h) = a (sym is.type ∙ h)
 not_followed is a b e (there (here h)) = b (sym is.type ∙ h)
 not_followed is a b e (there (there (here h))) = e (sym is.type ∙ h)
+not_followed {d = d} {c = c} {j = j} is a b e (there (there (there x12))) = elim x12 [ ]
 
 -- a result that is taken further where there is no reason
 bind_judged : {A B : Type 0} {d : List ℕ} {j : ℕ} {P : A → Type 0} {Q : B → Type 0} {x : Result A} (f : A → B) → Judged d j P x → ((a : A) → P a → Q (f a))

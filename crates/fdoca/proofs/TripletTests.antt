@@ -49,6 +49,10 @@ pub data Extents (d : List ℕ) (j : ℕ) : List ℕ → Type 0 where
 module _ {d : List ℕ} {j : ℕ} where
   pub zero_extent : {xs : List ℕ} → Extents d j xs → OneOf 0 xs → (k : ℕ) × (14 + 2 * k ≤ length_byte d j) × (extent d j k ≡ 0)
   zero_extent (one_there e) (here h) = (0, omega arith, sym h)
+  zero_extent (none_there _) x5 = elim x5 [ ]
+  zero_extent (one_there e) (there x8) = elim x8 [ ]
+  zero_extent (two_there e) (there (there x13)) = elim x13 [ ]
+  zero_extent (three_there e) (there (there (there x18))) = elim x18 [ ]
   zero_extent (two_there e) (here h) = (0, omega arith, sym h)
   zero_extent (two_there e) (there (here h)) = (1, omega arith, sym h)
   zero_extent (three_there e) (here h) = (0, omega arith, sym h)
@@ -72,6 +76,7 @@ no_groups : {c : ℕ} {A : Type 0} → OneOf c (rlo_byte ∷ gda_byte ∷ cpt_by
 no_groups (here e) a b h = absurd (a e)
 no_groups (there (here e)) a b h = absurd (b e)
 no_groups (there (there (here e))) a b h = absurd (h e)
+no_groups {c = c} {A = A} (there (there (there x15))) a b h = elim x15 [ ]
 
 sda_form : {c n : ℕ} → Form c n → c ≡ sda_byte → OneOf n (12 ∷ 14 ∷ 16 ∷ 18 ∷ [])
 sda_form (sda o) e = o
@@ -99,6 +104,7 @@ module _ (d : List ℕ) (j : ℕ) (w : NotTorn d j) where
       rw (extents_from d j w 0 (omega arith), extents_from d j w 1 (omega arith), extents_end d j w 2 e) (two_there e)
   extents_are (there (there (there (here e)))) =
       rw (extents_from d j w 0 (omega arith), extents_from d j w 1 (omega arith), extents_from d j w 2 (omega arith), extents_end d j w 3 e) (three_there e)
+  extents_are (there (there (there (there x16)))) = elim x16 [ ]
 
   -- LENGTH by a list of forms
   length_forms : (ns : List ℕ) → (OneOf (length_byte d j) ns → Form (byte_of d j 1) (length_byte d j)) → (Form (byte_of d j 1) (length_byte d j) → OneOf (length_byte d j) ns)
@@ -126,6 +132,7 @@ module _ (d : List ℕ) (j : ℕ) (w : NotTorn d j) where
           go (there (here e)) = omega arith
           go (there (there (here e))) = omega arith
           go (there (there (there (here e)))) = omega arith
+          go (there (there (there (there x16)))) = elim x16 [ ]
 
       id_is : id_of (bytes_of d j) ≡ byte_of d j 2
       id_is = byte_bytes d j w 2 (omega (arith, sda_long))
@@ -242,6 +249,7 @@ module _ (d : List ℕ) (j : ℕ) (w : NotTorn d j) where
         go : OneOf (length_byte d j) (5 ∷ 6 ∷ []) → 5 ≤ length_byte d j
         go (here e) = omega arith
         go (there (here e)) = omega arith
+        go (there (there x8)) = elim x8 [ ]
 
     module _ (long : 5 ≤ length_byte d j) where
       -- the version is 1, or is left off

@@ -266,6 +266,7 @@ data Default (T : FieldType) : Option ℕ → Type 0 where
 binary_length : (G : ℕ) → OneOf G (4 ∷ 8 ∷ []) → OneOf G floats
 binary_length G (here e) = here e
 binary_length G (there (here e)) = there (here e)
+binary_length G (there (there x8)) = elim x8 [ ]
 
 default_of : (T : FieldType) → Default T (rule_of T).default
 unfolding rule_of
@@ -401,6 +402,7 @@ module _ (a b : ℕ) (e : F a b ≡ 16) where
       typed (there (here q)) = (binary_float, rw q, refl)
       typed (there (there (here q))) = (reversed_float, rw q, refl)
       typed (there (there (there (here q)))) = (binary_float, rw q, refl)
+      typed (there (there (there (there x16)))) = elim x16 [ ]
 
       go : (T : FieldType) × (type_of c ≡ some T) × ((rule_of T).sizes ≡ one_of (4 ∷ 8 ∷ [])) → ByTable c bias mode (given a b) → ⊥
       go (T, q, s) t =

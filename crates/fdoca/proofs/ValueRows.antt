@@ -39,11 +39,13 @@ sized ns (digits p q) h = absurd (true≢false (sym h))
 
 pub one_below : (n m : ℕ) (ns : List ℕ) → all_below m ns ≡ true → OneOf n ns → n < m
 one_below n m (k ∷ ns) h (here e) = rw e (ltb-true k m (and_left (ltb k m) (all_below m ns) h))
+one_below n m [] h x'' = elim x'' [ ]
 one_below n m (k ∷ ns) h (there o) = one_below n m ns (and_right (ltb k m) (all_below m ns) h) o
 
 by_length : (P : ℕ → Type 0) (F : ℕ) → P 4 → P 8 → FourOrEight F → P F
 by_length P F a b (here q) = rw q a
 by_length P F a b (there (here q)) = rw q b
+by_length P F a b (there (there x8)) = elim x8 [ ]
 
 not_none : {A : Type 0} {a : A} → some a ≡ none → ⊥
 not_none e = let z : ◌≡◌ {A = ℕ} 0 1 = cc in omega arith

@@ -1,6 +1,8 @@
 // The definitions of FD:OCA descriptors and data blocks stand in specs/, and theorems about them in proofs/. This file has the types
 // of what the calls answer. An accepted call has number 0 and place 0; a refusal has its number and place, and zeros.
 
+#![tactic(auto)]
+
 // The check of a descriptor: how many items it describes.
 #[derive(Drop)]
 pub struct Checked {
