@@ -1,5 +1,8 @@
 // The calls on a descriptor and its data: list the items, tell an item's state, lend its value, read a whole number, a packed
 // decimal, or a value that is whole or a float.
+
+#![tactic(auto)]
+
 ghost use Rattle.std.specs.Prelude.{◌≡◌, ◌+◌, ◌≤◌, not, ◌&&◌, length};
 ghost use Rattle.fdoca.specs.Basics.{refuse, ok};
 ghost use Rattle.fdoca.specs.Calls as calls;

@@ -1,4 +1,7 @@
 // The cut of an accepted descriptor's data into items: its plan, marked by the walk.
+
+#![tactic(auto)]
+
 ghost use Rattle.std.specs.Prelude.{◌≡◌, ◌≤◌, true, false, length};
 ghost use Rattle.descriptors.specs.Holds.{Ready};
 ghost use Rattle.cuts.specs.Cut.{entries_for, Fitting, CutAs};

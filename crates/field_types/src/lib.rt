@@ -1,5 +1,8 @@
 // Field types (document 01, "Field types"; document 02, Q-1 to Q-4): the plain code of a type code, the rule that it finds, the size that holds
 // for an SDA's type parameters, and their test; and the test of a length that replaces theirs.
+
+#![tactic(auto)]
+
 ghost use Rattle.std.specs.Prelude.{◌≡◌, length};
 ghost use Rattle.fdoca.specs.FieldType.{plain, type_of};
 ghost use Rattle.fdoca.specs.Check.{good_column};

@@ -1,4 +1,7 @@
 // A field as one number of a plan, its entry; and the entry of the field with another size (document 02, Q-4).
+
+#![tactic(auto)]
+
 ghost use Rattle.std.specs.Prelude.{◌≡◌, ◌<◌};
 ghost use Rattle.fields.specs.Parts.{length_part, layout_part, entry_by};
 ghost use Rattle.fields.specs.Replaced.{Replaced};

@@ -1,4 +1,7 @@
 // The 64-bit floats of exactly equal value (document 02, Q-7).
+
+#![tactic(auto)]
+
 ghost use Rattle.std.specs.Prelude.{◌≡◌, ◌+◌, ◌*◌, ◌^◌, ◌≤◌, ◌<◌};
 ghost use Rattle.std.proofs.Math.Option.{some, none};
 ghost use Rattle.std.specs.Float.{binary64};

@@ -1,4 +1,7 @@
 // One item of a data block: whether it is null, and how its bytes are laid out.
+
+#![tactic(auto)]
+
 ghost use Rattle.std.specs.Prelude.{◌≡◌, ◌+◌, ◌<◌, ◌≤◌};
 ghost use Rattle.fdoca.specs.FieldType.{signed_two, unsigned_one};
 ghost use Rattle.fdoca.specs.Item.{space, measure_fixed, measure_counted, measure_value, measure_item};

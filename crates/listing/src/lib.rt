@@ -1,4 +1,7 @@
 // What the dump program prints of a file (document 01, "The item list and the dump program"), written into a lent text.
+
+#![tactic(auto)]
+
 ghost use Rattle.std.specs.Prelude.{◌≡◌, ◌+◌, ◌≤◌, ◌<◌, [], ◌∷◌, ◌++◌, length};
 ghost use Rattle.std.proofs.lemmas.List.Edits.{sets};
 ghost use Rattle.fdoca.specs.Basics.{if◌then◌else◌, big};

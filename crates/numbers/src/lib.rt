@@ -1,5 +1,8 @@
 // The numbers that bytes are: one byte, two, signed whole numbers of up to eight in two's complement, of either byte order (document 01,
 // "Field types", X'23' and X'24'), and packed decimals (document 02, Q-1). Also the smaller of two numbers.
+
+#![tactic(auto)]
+
 ghost use Rattle.std.specs.Prelude.{◌≡◌, ◌+◌, ◌*◌, ◌/◌, ◌^◌, ◌≤◌, ◌<◌, min, [], ◌∷◌, length, get_or, take, drop};
 ghost use Rattle.std.proofs.Math.Option.{none, some};
 ghost use Rattle.fdoca.specs.Basics.{big, lookup};

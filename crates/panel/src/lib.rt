@@ -1,5 +1,8 @@
 // The calls that a program in C makes. A slice is passed as a pointer and a count of elements. The number is returned, and every other
 // result is written where the caller lends room for it, also on a refusal.
+
+#![tactic(auto)]
+
 ghost use Rattle.std.specs.Prelude.{◌≡◌};
 ghost use Rattle.fdoca.specs.Check.{check};
 ghost use Rattle.fdoca.specs.Calls as calls;

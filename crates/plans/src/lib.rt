@@ -1,4 +1,7 @@
 // The plan of an accepted descriptor: its unfolding, one number an item, written by going down the references.
+
+#![tactic(auto)]
+
 ghost use Rattle.std.specs.Prelude.{◌≡◌, ◌+◌, ◌-◌, ◌*◌, ◌≤◌, ◌<◌, map, length, take, drop, replicate};
 ghost use Rattle.std.proofs.lemmas.List.Edits.{sets};
 ghost use Rattle.fdoca.specs.Basics.{repeat};

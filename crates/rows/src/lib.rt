@@ -1,4 +1,7 @@
 // Rows to the end (document 02, Q-5): the plan of one pass over the repeated layout, and whether it would take no data.
+
+#![tactic(auto)]
+
 ghost use Rattle.std.specs.Prelude.{◌≡◌, ◌+◌, ◌≤◌, ◌<◌, map, ◌++◌, length, take};
 ghost use Rattle.std.proofs.lemmas.List.Edits.{sets};
 ghost use Rattle.fields.specs.Plan.{entry_of};

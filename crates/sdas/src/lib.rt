@@ -1,4 +1,7 @@
 // One SDA: the first reason to refuse it, or what is kept of it in the tables of described ids.
+
+#![tactic(auto)]
+
 ghost use Rattle.std.specs.Prelude.{◌≡◌, ◌*◌, ◌≤◌, ◌<◌, true};
 ghost use Rattle.fdoca.specs.Triplet.{code_of, parameters_of, extents_of};
 ghost use Rattle.fdoca.specs.Basics.{product};

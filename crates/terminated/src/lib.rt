@@ -1,4 +1,7 @@
 // A null-terminated value (X'03'): where its first zero byte stands, and how its bytes are laid out. And what measuring an item finds, of any layout.
+
+#![tactic(auto)]
+
 ghost use Rattle.std.specs.Prelude.{◌≡◌, ◌+◌, ◌≤◌, false, length, drop};
 ghost use Rattle.fdoca.specs.Item.{refused, item, unbounded, limited, reserved, space, before_zero, measure_terminated};
 ghost use Rattle.terminated.specs.Answer.{answer};

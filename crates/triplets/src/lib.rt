@@ -1,4 +1,7 @@
 // One RLO, GDA, CPT or ISD of a descriptor: the first reason to refuse it, or what a row counts with it.
+
+#![tactic(auto)]
+
 ghost use Rattle.std.specs.Prelude.{◌≡◌, ◌/◌, ◌%◌, ◌≤◌, ◌<◌, true, [], ◌∷◌};
 ghost use Rattle.fdoca.specs.Triplet.{groups_of};
 ghost use Rattle.fdoca.specs.Basics.{elem};

@@ -1,4 +1,7 @@
 // The value of an item's bytes, whatever numeric type they have (document 02, Q-7): a whole number or a 64-bit float.
+
+#![tactic(auto)]
+
 ghost use Rattle.std.specs.Prelude.{◌≡◌, ◌≤◌, false, [], ◌∷◌, length, eqb};
 ghost use Rattle.fdoca.specs.Basics.{is_some, elem, big, refuse, ok};
 ghost use Rattle.fdoca.specs.Float.{float_of};

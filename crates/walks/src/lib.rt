@@ -1,4 +1,7 @@
 // The walk over a plan and the data (document 01, "Unfolding and walk").
+
+#![tactic(auto)]
+
 ghost use Rattle.std.specs.Prelude.{◌≡◌, ◌+◌, ◌*◌, ◌/◌, ◌≤◌, ◌<◌, List, length, drop};
 ghost use Rattle.std.proofs.Math.Seq.{paste};
 ghost use Rattle.fdoca.specs.Basics.{refuse};

@@ -1,0 +1,9 @@
+use borrow.Author.Rules.{rules}
+use Rattle.numbers.proofs.Digits.{digit_back, digit_front}
+use Rattle.numbers.proofs.digit.Goals as goal
+
+pub returns-then-reversed : goal.returns-then-reversed
+returns-then-reversed c = search (rules, digit_back)
+
+pub returns : goal.returns
+returns c = search (rules, digit_front)
