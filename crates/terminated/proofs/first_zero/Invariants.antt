@@ -1,0 +1,15 @@
+-- `terminated::first_zero` meets its contract. The invariant: none of the `i` bytes that were passed is zero.
+-- Assumes nothing.
+use Prim.Native.Nat.{◌≤◌, ◌+◌, ◌-◌}
+use mathlib.Core.Path.{◌≡◌}
+use borrow.Author.Rules.{rules}
+use lib.ListN.{length, drop}
+use Rattle.fdoca.specs.Item.{before_zero}
+use Rattle.terminated.proofs.Scan.{zero_start, zero_first, zero_second, zero_third, zero_fourth, four_later}
+use Rattle.terminated.proofs.first_zero.Given as goal
+
+abbrev pub invariant-loop-i : goal.invariant-loop-i
+invariant-loop-i l = (l.i ≤ length l.s) × (before_zero l.s ≡ l.i + before_zero (drop l.i l.s))
+
+abbrev pub decreases-loop-i : goal.decreases-loop-i
+decreases-loop-i l = length l.s - l.i
