@@ -48,10 +48,12 @@ few (some binary_float) = (lit≤ tt, lit≤ tt, lit≤ tt)
 few_sizes : (z : Sizes) (o : Option ℕ) → Few z o → Few z none
 few_sizes z none h = h
 few_sizes (up_to n) (some m) h = tt
+few_sizes (digits_up_to _) (some m) h = elim h [ ]
 few_sizes (one_of ns) (some m) h = h.0
 
 few_default : (z : Sizes) (m : ℕ) → Few z (some m) → (0 < m) × (m < 65536)
 few_default (up_to n) m h = h
+few_default (digits_up_to _) m h = elim h [ ]
 few_default (one_of ns) m h = (h.1, h.2)
 
 whole : (F : ℕ) → F / 256 * 256 + F % 256 ≡ F
@@ -129,6 +131,7 @@ module _ (r : definition.Rule) (a b : ℕ) (low : b < 256) (h : Few r.sizes r.de
           let e : (a * 256 + b) / 256 ≡ a = omega arith in
           let f : (a * 256 + b) % 256 ≡ b = omega arith in
           (refl, rw (e, f))
+      go (digits_up_to n) (some _) k = elim k [ ]
 
   held_small : a < 256 → number r.default < 65536
   held_small high = go r.default h

@@ -32,7 +32,7 @@ pub struct Shape {
 }
 
 // What a field type allows as its type parameters, and how long its values are.
-#[derive(Drop)]
+#[derive(Clone, Copy)]
 struct Rule {
     // The field length is below `top`, or is one of three sizes; or there are so many digits at the most, 0 where the size is no digits.
     top: usize,

@@ -98,6 +98,9 @@ of_bytes z l F e =
 parts_of : (z : Sizes) (l : Layout) (size : Size) → Small z l → InTwo z size → PartsOf z l size
 unfolding form_of prefix_of digits_part length_part layout_part
 parts_of (up_to n) l (bytes F) k h = of_bytes (up_to n) l F refl
+parts_of (up_to n) l (digits p q) k h = elim h [ ]
+parts_of (one_of ns) l (digits p q) k h = elim h [ ]
+parts_of (digits_up_to n) l (bytes F) k h = elim h [ ]
 parts_of (one_of ns) l (bytes F) k h = of_bytes (one_of ns) l F refl
 parts_of (digits_up_to n) l (digits p q) (_, e) (a, b) =
     let x : (p * 256 + q) / 256 ≡ p = omega arith in

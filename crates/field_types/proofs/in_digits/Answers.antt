@@ -1,0 +1,6 @@
+use Rattle.field_types.proofs.Rows.{digits_told}
+use borrow.Author.Rules.{rules}
+use Rattle.field_types.proofs.in_digits.Goals as goal
+
+pub returns : goal.returns
+returns c = search (digits_told)
