@@ -52,7 +52,7 @@ module _ (mode f w L left : ℕ) (m : Measured) where
       simp (ne_eqb _ _ z, ne_eqb _ _ y, le-ltb _ _ o)
       (h ∙ ap answer (sent_body (limited f) w L L left (omega arith)))
 
-pub ruleset ranged-ways = (unbounded_sent, over_refused, reserved_sent, limited_sent)
+pub ruleset ranged_ways = (unbounded_sent, over_refused, reserved_sent, limited_sent)
 
 -- the length fields, as the bytes that they have
 one_byte : (s : List ℕ) → 1 ≤ length s → big (take 1 s) ≡ get_or s 0 0
@@ -86,7 +86,7 @@ module _ (sp : Space) (s : List ℕ) (m : Measured) where
       let q : big (take 2 s) ≡ a * 256 + b = omega (arith, two_bytes_lem s l) in
       simp (le-ltb _ _ l, q, lt-leb 0x8000 (a * 256 + b) (omega arith)) h
 
-pub ruleset one-ways = (counted_short, one_ranged)
+pub ruleset one_ways = (counted_short, one_ranged)
 
 pub ruleset two_ways = (counted_short, two_negative, two_ranged, lit≤)
 
@@ -120,7 +120,7 @@ module _ (s : List ℕ) (b : Bool) (t : b ≡ true) (e : length s ≡ 0 → ⊥)
   pub a_null : (get_or s 0 0 ≡ 0 → ⊥) → 128 ≤ get_or s 0 0 → answer (item true 1 0 0) ≡ answer (measure_indicator b s)
   a_null z k = simp (t, first_byte s e, ne_eqb _ _ z, le-leb _ _ k)
 
-pub ruleset indicator-ways = (no_indicator, no_byte, no_null, neither, a_null, not-true, not-false)
+pub ruleset indicator_ways = (no_indicator, no_byte, no_null, neither, a_null, not-true, not-false)
 
 -- an item by what its null indicator tells: none, a null, or the value behind so many bytes
 abbrev moved : ℕ → defined.Measured → defined.Measured
@@ -208,4 +208,4 @@ module _ (b : Bool) (s : List ℕ) (m : Measured) (h : m ≡ answer (measure_ind
           let x : measure_indicator b s ≡ item false m.lead m.value m.spare = rw k at (is_item m (measure_indicator b s) (numbered_indicator b s) h z) in
           rw (by_indicator l mode f b s, x, ← part_to_end s m.lead) (q ∙ moved_by_lem v _ m.lead (numbered_value l mode f _) e)
 
-pub ruleset measured-ways = (measured_refused, measured_null, measured_value, indicator_inside, moved_fits)
+pub ruleset measured_ways = (measured_refused, measured_null, measured_value, indicator_inside, moved_fits)

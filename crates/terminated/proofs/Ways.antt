@@ -24,7 +24,7 @@ module _ (s : List ℕ) (z : ℕ) (m : Measured) where
   unfolding measure_terminated
   endless_short e k h = simp (← e, le-ltb z (length s) k) h
 
-pub ruleset endless-ways = (endless_found, endless_short)
+pub ruleset endless_ways = (endless_found, endless_short)
 
 -- the first n bytes, where so many are there
 pub window : (s : List ℕ) (n : ℕ) → n ≤ length s → n ≡ length (take n s)
@@ -68,6 +68,6 @@ module _ (s : List ℕ) (f : ℕ) (m : Measured) where
   unfolding measure_terminated
   padded_short l h = simp (lt-ltb (length s) (f + 1) (omega arith)) h
 
-pub ruleset bounded-ways = (bounded_rest, bounded_found, bounded_none, next)
+pub ruleset bounded_ways = (bounded_rest, bounded_found, bounded_none, next)
 
-pub ruleset padded-ways = (padded_short, padded_found, padded_none, next, le_of_lt)
+pub ruleset padded_ways = (padded_short, padded_found, padded_none, next, le_of_lt)

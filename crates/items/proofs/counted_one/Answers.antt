@@ -1,11 +1,11 @@
 -- `items::counted_one` meets its contract.
 -- Assumes nothing.
 use borrow.Author.Rules.{rules}
-use Rattle.items.proofs.Ways.{one-ways}
+use Rattle.items.proofs.Ways.{one_ways}
 use Rattle.items.proofs.counted_one.Goals as goal
 
 pub returns-then-s-lt1 : goal.returns-then-s-lt1
-returns-then-s-lt1 c = search one-ways
+returns-then-s-lt1 c = search one_ways
 
 pub returns : goal.returns
-returns c = search one-ways
+returns c = search one_ways

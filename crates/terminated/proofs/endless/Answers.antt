@@ -1,11 +1,11 @@
 -- `terminated::endless` meets its contract.
 -- Assumes nothing.
 use borrow.Author.Rules.{rules}
-use Rattle.terminated.proofs.Ways.{endless-ways}
+use Rattle.terminated.proofs.Ways.{endless_ways}
 use Rattle.terminated.proofs.endless.Goals as goal
 
 pub returns-then-end-s : goal.returns-then-end-s
-returns-then-end-s c = search endless-ways
+returns-then-end-s c = search endless_ways
 
 pub returns : goal.returns
-returns c = search endless-ways
+returns c = search endless_ways
