@@ -78,6 +78,8 @@ module _ (d s z e : List ℕ) (tied : Tied d s z e) where
       go gda (array f []) o (of_column good) =
           let k = tied.each g.ref (array f []) o in
           rw o (entry (column_proper f g.byte1 g.byte2 k.proper k.typed good) empty)
+      go gda (array f (_ ∷ _)) o x7 = elim x7 [ ]
+      go gda (row _) o x5 = elim x5 [ ]
 
   -- rows before n: a row's groups refer to triplets before it
   plan_rows : (n p : ℕ) → p < n → RowAt d s p (row_list d p) → Plan (row_list d p)

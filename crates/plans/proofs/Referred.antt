@@ -26,6 +26,7 @@ sda_once : {z e : List ℕ} {i : ℕ} (t : ℕ) (f : Field) (xs : List ℕ) → 
 unfolding entries_taken
 sda_once zero f xs k all = ap (λ (n : ℕ). replicate n f) (sym k.count)
 sda_once (suc t) f (x ∷ xs) k some_of = simp (ne_eqb (suc t) 0 (λ h. omega arith)) (ap (λ (n : ℕ). replicate (suc t * n) f) (sym k.lower))
+sda_once {z = z} {e = e} {i = i} (suc t) f [] k x3 = elim x3 [ ]
 
 pub row_once : (t : ℕ) (l : List Field) → fields_taken t (row l) ≡ l
 row_once zero l = refl
@@ -103,6 +104,8 @@ module _ (d s z e : List ℕ) (q g at head : ℕ) (tied : Tied d s z e) (k : Ref
       go gda t (array f []) o (of_column good) =
           let w = tied.each (get_or d g 0) (array f []) o in
           record { field = f; known = o; entry = w.entry; proper = w.proper; typed = w.typed }
+      go gda t (array f (_ ∷ _)) o m = elim m [ ]
+      go gda t (row _) o m = elim m [ ]
       go rlo t D o m = kinds_differ t
 
   pub column_room : (size : ℕ) → at + length (group_list d (kind_of head) g) ≤ size → at + 1 ≤ size

@@ -27,6 +27,7 @@ planned_length (entry h p) = ap suc (planned_length p)
 proper_notes : (es : List ℕ) (ns : List Note) → Planned es (map (λ i. i.field) ns) → Noted ns
 proper_notes es [] p = nothing
 proper_notes (e ∷ es) (n ∷ ns) (entry h p) = item h (proper_notes es ns p)
+proper_notes [] (n ∷ ns) p = elim p [ ]
 
 -- the notes of a good block: as many as the plan has entries, and of proper fields
 module _ (es : List ℕ) (fs : List Field) (s : List ℕ) (ns : List Note) (p : Planned es fs) (e : walk fs s ≡ ok ns) where

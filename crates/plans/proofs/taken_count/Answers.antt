@@ -8,8 +8,7 @@ use mir.Syntax.{w8, w32, w64}
 use mir.Val.{Fits}
 use Rattle.fdoca.proofs.Tests.{tests}
 use Rattle.plans.specs.Writing.{entries_taken}
-use Rattle.plans.proofs.taken_count.Statement.{statement}
-use Rattle.plans.proofs.taken_count.Tie as tie
+use Rattle.plans.proofs.taken_count.Goals as goal
 
 module _ (size taken : ℕ) (s : Fits w32 size) (t : Fits w8 taken) where
   taken-small : taken * (size / 65536) < 16777216
@@ -18,22 +17,13 @@ module _ (size taken : ℕ) (s : Fits w32 size) (t : Fits w8 taken) where
   taken-fits : Fits w64 (taken * (size / 65536))
   taken-fits = omega (arith, taken-small)
 
-cast-result : tie.Need-overflow-cast-result
-cast-result c = search rules
-
-returns : tie.Need-returns
+pub returns-then-taken-eq0 : goal.returns-then-taken-eq0
 unfolding entries_taken
-returns c = search (rules, tests)
+returns-then-taken-eq0 c = search (rules, tests)
 
-cast-result-2 : tie.Need-overflow-cast-result-2
-cast-result-2 c = search rules
+pub overflow_mul-result : goal.overflow_mul-result
+overflow_mul-result c = search taken-fits
 
-mul-result : tie.Need-overflow-mul-result
-mul-result c = search taken-fits
-
-returns-2 : tie.Need-returns-2
+pub returns : goal.returns
 unfolding entries_taken
-returns-2 c = search (tests, taken-small)
-
-pub taken-count-spec : {M : Type 1} → statement M
-taken-count-spec = tie.close (tie.spec cast-result returns cast-result-2 mul-result returns-2)
+returns c = search (tests, taken-small)

@@ -1,0 +1,8 @@
+-- `plans::column` meets its contract.
+-- Assumes nothing.
+use borrow.Author.Rules.{rules}
+use Rattle.plans.proofs.Referred.{column_place, column_written}
+use Rattle.plans.proofs.column.Goals as goal
+
+pub returns : goal.returns
+returns c = search (column_place, column_written)

@@ -1,0 +1,16 @@
+-- `plans::copies` meets its contract.
+-- Assumes nothing.
+use Prim.Native.Nat.{◌-◌}
+use borrow.Author.Rules.{rules}
+use Rattle.fdoca.specs.Basics.{repeat}
+use Rattle.plans.proofs.Stores.{Stored, between, none_stored, copied_more, copied}
+use Rattle.plans.proofs.copies.Goals as goal
+
+pub loop-k-init : goal.loop-k-init
+loop-k-init c = search none_stored
+
+pub loop-k-preserved : goal.loop-k-preserved
+loop-k-preserved c = search copied_more
+
+pub returns-clause-plan_after : goal.returns-clause-plan_after
+returns-clause-plan_after c = search copied

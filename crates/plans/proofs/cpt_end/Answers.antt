@@ -1,0 +1,25 @@
+-- `plans::cpt_end` meets its contract.
+-- Assumes nothing.
+use native.Mathlib.Omega.{arith}
+use borrow.Author.Rules.{rules}
+use Rattle.fdoca.proofs.Tests.{tests}
+use Rattle.plans.specs.Writing.{end_of_cpt}
+use Rattle.plans.proofs.cpt_end.Goals as goal
+
+pub returns-then-desc-g-lt3 : goal.returns-then-desc-g-lt3
+unfolding end_of_cpt
+returns-then-desc-g-lt3 c = search tests
+
+pub returns-then-desc-g-ne-CPT : goal.returns-then-desc-g-ne-CPT
+unfolding end_of_cpt
+returns-then-desc-g-ne-CPT c = search tests
+
+pub overflow_cast-result : goal.overflow_cast-result
+overflow_cast-result c = omega (arith, c.shared_slice_known-2-1.given c.args.g)
+
+pub overflow_add-result : goal.overflow_add-result
+overflow_add-result c = omega (arith, c.shared_slice_known-2-1.given c.args.g)
+
+pub returns : goal.returns
+unfolding end_of_cpt
+returns c = search tests

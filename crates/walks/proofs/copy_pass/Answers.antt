@@ -1,0 +1,15 @@
+-- `walks::copy_pass` meets its contract.
+-- Assumes nothing.
+use Prim.Native.Nat.{◌-◌}
+use borrow.Author.Rules.{rules}
+use Rattle.walks.proofs.Passing.{Copied, none_copied, one_copied, all_copied}
+use Rattle.walks.proofs.copy_pass.Goals as goal
+
+pub loop-i-init : goal.loop-i-init
+loop-i-init c = search none_copied
+
+pub loop-i-preserved : goal.loop-i-preserved
+loop-i-preserved c = search one_copied
+
+pub returns : goal.returns
+returns c = search all_copied

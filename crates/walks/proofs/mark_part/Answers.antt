@@ -1,0 +1,21 @@
+-- `walks::mark_part` meets its contract.
+-- Assumes nothing.
+use borrow.Author.Rules.{rules, set_long}
+use Prim.Native.Nat.{◌≤◌, ◌-◌}
+use mathlib.Core.Path.{◌≡◌}
+use lib.ListN.{length}
+use Rattle.walks.proofs.Steps.{step_inside}
+use Rattle.walks.proofs.Marking.{Marking, mark_start, mark_more, mark_stop, mark_done, reached_inside}
+use Rattle.walks.proofs.mark_part.Goals as goal
+
+pub loop-k-init : goal.loop-k-init
+loop-k-init c = search (rules, mark_start)
+
+pub returns-then-last-ge-REFUSED : goal.returns-then-last-ge-REFUSED
+returns-then-last-ge-REFUSED c = ((λ fs f. search mark_stop), search reached_inside)
+
+pub loop-k-preserved : goal.loop-k-preserved
+loop-k-preserved c = (search rules, (search (rules, step_inside), (search (rules, set_long), search mark_more)))
+
+pub returns : goal.returns
+returns c = ((λ fs f. search mark_done), search reached_inside)
