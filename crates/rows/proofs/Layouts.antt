@@ -58,6 +58,7 @@ by_sda : {z e : List ℕ} {i : ℕ} (t : ℕ) (f : Field) (xs : List ℕ) → Sd
 by_sda zero f xs k all = ap no_data k.entry ∙ by_entries (product xs) f k.proper k.some_item
 by_sda (suc t) f (x ∷ xs) k some_of =
     ap no_data k.entry ∙ by_entries (suc t * product xs) f k.proper (mul-pos (omega arith) (some_lower x (product xs) k.some_item))
+by_sda {z = z} {e = e} {i = i} (suc t) f [] k x3 = elim x3 [ ]
 
 -- ---- `endless`
 
@@ -95,6 +96,8 @@ module _ (d s e : List ℕ) (q g head : ℕ) (tied : TiedSome d s e) (k : Refers
           let y = tied.tied.each (get_or d g 0) (array f []) o in
           let v : x ≡ entry_of (column a b f) = w.same f y.proper y.typed (rw ei y.entry) in
           rw (v, o) (by_entry (column a b f) (column_proper f a b y.proper y.typed good))
+      go gda t (array f (_ ∷ _)) o m = elim m [ ]
+      go gda t (row _) o m = elim m [ ]
       go rlo t D o m = kinds_differ t
 
   module _ (h : head ≡ 0x75 → ⊥) where

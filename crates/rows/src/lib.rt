@@ -85,7 +85,7 @@ fn no_data(entry: u64) -> bool
 }
 
 // `endless` of the row at p, group by group.
-#[cycle(endless_endless_group_endless_row)]
+#[cycle(no_data_rows)]
 fn endless_row(desc: &[u8], starts: &[u16; 256], entries: &[u64; 256], p: usize) -> bool
     requires { TiedSome desc.now starts.now entries.now × RowAt desc.now starts.now p (row_list desc.now p) }
     ensures { result ≡ endless (row_list desc.now p) }
@@ -110,7 +110,7 @@ fn endless_row(desc: &[u8], starts: &[u16; 256], entries: &[u64; 256], p: usize)
 
 // `endless` of the fields that the group at g adds. `head` is the construct type of the row's head. Repetitions do not matter, but for 0, which adds
 // no field.
-#[cycle(endless_endless_group_endless_row)]
+#[cycle(no_data_rows)]
 fn endless_group(desc: &[u8], starts: &[u16; 256], entries: &[u64; 256], g: usize, head: u8) -> bool
     requires { TiedSome desc.now starts.now entries.now × (g + 3 ≤ length desc.now)
         × Refers (kind_of head) desc.now starts.now (length desc.now) (group_at desc.now g) }
@@ -129,7 +129,7 @@ fn endless_group(desc: &[u8], starts: &[u16; 256], entries: &[u64; 256], g: usiz
 
 // Whether every item of the layout of the group at g is an X'01' that is not nullable and has F 0, so that a pass would take no data. Elements taken
 // do not matter: an SDA has an item at least.
-#[cycle(endless_endless_group_endless_row)]
+#[cycle(no_data_rows)]
 pub fn endless(desc: &[u8], starts: &[u16; 256], entries: &[u64; 256], g: usize) -> bool
     requires { TiedSome desc.now starts.now entries.now × PassAt desc.now g }
     ensures { result ≡ endless (pass_list desc.now g) }

@@ -14,12 +14,6 @@ pub returns-then-desc-g-ne-CPT : goal.returns-then-desc-g-ne-CPT
 unfolding end_of_cpt
 returns-then-desc-g-ne-CPT c = search tests
 
-pub overflow_cast-result : goal.overflow_cast-result
-overflow_cast-result c = omega (arith, c.shared_slice_known-2-1.given c.args.g)
-
-pub overflow_add-result : goal.overflow_add-result
-overflow_add-result c = omega (arith, c.shared_slice_known-2-1.given c.args.g)
-
 pub returns : goal.returns
 unfolding end_of_cpt
 returns c = search tests

@@ -1,0 +1,45 @@
+use Rattle.plans.proofs.Rows.{within, refers}
+use Rattle.rows.proofs.Passing.{pass_made, pass_fits}
+use Rattle.rows.proofs.Layouts.{by_row, by_array, row_below, by_column, by_none, layout_here, by_layout, layout_below, begun, group_below, such_too, another, at_next, all_such}
+use Rattle.rows.proofs.+no_data_rows.Goals as goal
+use Rattle.rows.proofs.+no_data_rows.Goals.{endless_row-then-g-end+else-not-endless_group, endless_row-else-g-end+else-end-eq0}
+
+pub endless-endless_row-requires : goal.endless-endless_row-requires
+endless-endless_row-requires t c = search (row_below, pass_made)
+
+pub endless-returns-then-entry-eq0 : goal.endless-returns-then-entry-eq0
+endless-returns-then-entry-eq0 t c = search by_row
+
+pub endless-returns : goal.endless-returns
+endless-returns t c = search by_array
+
+pub endless_group-returns-then-head-eq-GDA : goal.endless_group-returns-then-head-eq-GDA
+endless_group-returns-then-head-eq-GDA t c = search by_column
+
+pub endless_group-returns-then-desc-g-eq0 : goal.endless_group-returns-then-desc-g-eq0
+endless_group-returns-then-desc-g-eq0 t c = search by_none
+
+pub endless_group-endless-requires : goal.endless_group-endless-requires
+endless_group-endless-requires t c = search (layout_below, layout_here)
+
+pub endless_group-returns : goal.endless_group-returns
+endless_group-returns t c = search by_layout
+
+pub endless_row-loop-g-init : goal.endless_row-loop-g-init
+endless_row-loop-g-init t c = search begun
+
+pub endless_row-endless_group-requires : goal.endless_row-endless_group-requires
+endless_row-endless_group-requires t c = search (within, refers, group_below)
+
+pub endless_row-returns-then-not-endless_group : goal.endless_row-returns-then-not-endless_group
+endless_row-returns-then-not-endless_group t c = search another
+
+pub endless_row-returns-then-end-eq0 : goal.endless_row-returns-then-end-eq0
+endless_row-returns-then-end-eq0 t c = search all_such
+
+pub endless_row-loop-g-preserved : goal.endless_row-loop-g-preserved
+endless_row-loop-g-preserved t c =
+    elim c.if-g-end.branch [
+      | endless_row-then-g-end+else-not-endless_group w ↦ rw w.end-is (search such_too)
+      | endless_row-else-g-end+else-end-eq0 w ↦ rw w.end-is (search at_next)
+    ]

@@ -1,0 +1,6 @@
+use borrow.Author.Rules.{rules}
+use Rattle.sdas.proofs.Sda.{refused_is}
+use Rattle.sdas.proofs.refused.Goals as goal
+
+pub returns : goal.returns
+returns c = search (refused_is)
