@@ -100,7 +100,7 @@ middle n w l h = ap (drop n) (take-add n w l) ∙ drop_at (take n l) (take w (dr
 planned_take : {es : List ℕ} {fs : List Field} (m : ℕ) → Planned es fs → Planned (take m es) (take m fs)
 planned_take zero p = empty
 planned_take (suc m) empty = empty
-planned_take (suc m) (entry h p) = entry h (planned_take m p)
+planned_take (suc m) (entry {f = f} {es = es} {fs = fs} h p) = entry h (planned_take {es = es} {fs = fs} m p)
 
 pub unmarked_planned : {es : List ℕ} {fs : List Field} → Planned es fs → unmarked es ≡ es
 unmarked_planned empty = refl

@@ -15,13 +15,13 @@ returns-then-first-ne0 c = λ bs rows f. search first_stop
 
 pub mark_passes-requires : goal.mark_passes-requires
 mark_passes-requires c =
-    let p = c.mark_part-first.ensures.0 in
+    let p = c.mark_part-first.ensures.marked_part in
     let pre = c.requires in
     let z = c.if-first-ne0.false in
     (passes_asked _ _ _ _ _ _ p pre.0 z, after_fits _ _ _ _ _ _ p pre.0 pre.1, search rules, search rules, search rules)
 
 pub returns : goal.returns
 returns c =
-    let p = c.mark_part-first.ensures.0 in
+    let p = c.mark_part-first.ensures.marked_part in
     let z = c.if-first-ne0.false in
     rows_marked _ _ _ _ _ _ p z _ _ c.mark_passes.ensures
