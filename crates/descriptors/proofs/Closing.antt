@@ -1,14 +1,14 @@
 -- A row that ends: the list that its triplets make, where it is kept, and the tables with it.
 -- Assumes nothing.
 use mathlib.Core.Path.{◌≡◌, refl, sym, ap, ◌∙◌, subst}
-use Prim.Native.Nat.{ℕ, zero, ◌+◌, ◌-◌, ◌/◌, ◌%◌, ◌≤◌, ◌<◌}
+use Prim.Native.Nat.{ℕ, zero, suc, ◌+◌, ◌-◌, ◌/◌, ◌%◌, ◌≤◌, ◌<◌}
 use native.Mathlib.Omega.{arith}
 use mathlib.Core.List.{List, [], ◌∷◌, append-nil}
 use mathlib.Core.Option.{Option, none, some}
 use lib.ListN.{length, get_or, set, drop}
 use lib.Seq.{get_or-set_same}
 use Rattle.fdoca.specs.Basics.{lookup}
-use Rattle.fdoca.specs.Triplet.{Kind, rlo, Group}
+use Rattle.fdoca.specs.Triplet.{Kind, rlo, gda, Group}
 use Rattle.fdoca.specs.Item.{Field}
 use Rattle.fdoca.specs.Unfolding.{Described, array, row, group_fields, add_fields, Layouts, close_row}
 use Rattle.fdoca.specs.Between.{entry}
@@ -75,6 +75,8 @@ module _ (d s e : List ℕ) (at p i : ℕ) (size : p - at ≡ 6) (once : get_or 
         where
           all_taken : (k : ℕ) → Takes k (row l') → k ≡ 0
           all_taken zero all = refl
+          all_taken (suc _) x5 = elim x5 [ ]
+      go z ds l h t r back (row l') gda ek q m = elim m [ ]
 
 -- the size of a row
 row_size : (n : ℕ) → n ≤ 4096 → (n % 65536 ≡ n) × (n / 65536 ≡ 0)

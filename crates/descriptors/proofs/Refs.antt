@@ -29,6 +29,8 @@ takes_of (suc k) n (row l) e = absurd (let z : ◌≡◌ {A = ℕ} 0 1 = cc in l
 -- what a group that is not refused makes
 column_made : (g : Group) (D : Described) → Fitting g D → Makes gda g D
 column_made g (array f []) (single h) = of_column h
+column_made g (array f (_ ∷ _)) x5 = elim x5 [ ]
+column_made g (row _) x3 = elim x3 [ ]
 
 made_of : (kind : Kind) (ends : Bool) (p m : ℕ) (g : Group) (D : Described) → count_added kind ends p g (entry D) ≡ ok m → Makes kind g D
 unfolding count_added

@@ -16,7 +16,7 @@ use triplets::RLO;
 
 // What the triplets so far have led to: a refusal's number, or the SDA, RLO or GDA that was described last, with its id (0 for none) and its
 // count, and its place. `head` is the construct type of an RLO or a GDA while a CPT may continue it, else 0.
-#[derive(Drop)]
+#[derive(Clone, Copy)]
 pub struct Step {
     pub number: u8,
     pub head: u8,

@@ -25,7 +25,7 @@ pub const NO_LAYOUT: u8 = 255;
 
 // What an SDA's type and parameters say of its items: the layout's number, DIGITS of a packed decimal; and the two bytes of the size that
 // holds, as one number.
-#[derive(Drop)]
+#[derive(Clone, Copy)]
 pub struct Shape {
     pub layout: u8,
     pub size: usize,

@@ -21,7 +21,7 @@ pub const MOST: usize = 4096;
 pub const NOWHERE: u16 = 65535;
 
 // What judging an SDA gives: its shape and its item count, or the number of its refusal.
-#[derive(Drop)]
+#[derive(Clone, Copy)]
 pub struct Judged {
     pub number: u8,
     pub shape: Shape,
