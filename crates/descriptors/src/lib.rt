@@ -26,7 +26,7 @@ pub struct Step {
 }
 
 // What examining a descriptor gives: the check's answer, the id of the triplet that describes the block, and whether it has rows to the end.
-#[derive(Drop)]
+#[derive(Clone, Copy)]
 pub struct Examined {
     pub number: u32,
     pub place: u32,

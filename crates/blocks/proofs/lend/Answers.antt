@@ -1,0 +1,6 @@
+use Rattle.blocks.proofs.Lending.{lent_part}
+use borrow.Author.Rules.{rules}
+use Rattle.blocks.proofs.lend.Goals as goal
+
+pub returns : goal.returns
+returns c = search (lent_part)

@@ -1,0 +1,6 @@
+use Rattle.blocks.proofs.Calling.{without_rows}
+use borrow.Author.Rules.{rules}
+use Rattle.blocks.proofs.too_small.Goals as goal
+
+pub returns : goal.returns
+returns c = search (without_rows)
