@@ -1,0 +1,20 @@
+-- `listing::put_items` meets its contract.
+-- Assumes nothing.
+use Prim.Native.Nat.{◌-◌}
+use mathlib.Core.Path.{◌≡◌}
+use borrow.Author.Rules.{rules}
+use lib.ListN.{length}
+use Rattle.listing.proofs.Going.{Going, no_lines, start_inside, line_more, lines_put, lines_long}
+use Rattle.listing.proofs.put_items.Goals as goal
+
+pub loop-k-init : goal.loop-k-init
+loop-k-init c = (search rules, search no_lines)
+
+pub item_at-m-requires : goal.item_at-m-requires
+item_at-m-requires c = search start_inside
+
+pub loop-k-preserved : goal.loop-k-preserved
+loop-k-preserved c = (search rules, search line_more)
+
+pub returns : goal.returns
+returns c = (search lines_put, search lines_long)

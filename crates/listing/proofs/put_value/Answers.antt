@@ -1,0 +1,11 @@
+-- `listing::put_value` meets its contract.
+-- Assumes nothing.
+use borrow.Author.Rules.{rules}
+use Rattle.listing.proofs.Words.{null_put, length_put}
+use Rattle.listing.proofs.put_value.Goals as goal
+
+pub returns-then-null : goal.returns-then-null
+returns-then-null c = search null_put
+
+pub returns : goal.returns
+returns c = search length_put

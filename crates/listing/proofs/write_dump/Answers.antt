@@ -1,0 +1,26 @@
+-- `listing::write_dump` meets its contract.
+-- Assumes nothing.
+use borrow.Author.Rules.{rules}
+use Rattle.listing.proofs.File.{first_four, all_said, short_file, large_descriptor, large_data, other_length, whole_file}
+use Rattle.listing.proofs.write_dump.Goals as goal
+
+pub returns-then-file-lt8 : goal.returns-then-file-lt8
+returns-then-file-lt8 c = all_said _ _ _ _ (search short_file)
+
+pub slice_bounds-size_in-end : goal.slice_bounds-size_in-end
+slice_bounds-size_in-end c = search first_four
+
+pub size_in-d-requires : goal.size_in-d-requires
+size_in-d-requires c = search first_four
+
+pub returns-then-d-gt-MOST_DESCRIPTOR : goal.returns-then-d-gt-MOST_DESCRIPTOR
+returns-then-d-gt-MOST_DESCRIPTOR c = all_said _ _ _ _ (search large_descriptor)
+
+pub returns-then-s-gt-MOST_DATA : goal.returns-then-s-gt-MOST_DATA
+returns-then-s-gt-MOST_DATA c = all_said _ _ _ _ (search large_data)
+
+pub returns-then-file-d : goal.returns-then-file-d
+returns-then-file-d c = all_said _ _ _ _ (search other_length)
+
+pub returns : goal.returns
+returns c = all_said _ _ _ _ (search whole_file)
