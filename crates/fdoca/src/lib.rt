@@ -50,7 +50,7 @@ pub struct Decimal {
 }
 
 // The value of an item of a numeric type.
-#[derive(Drop)]
+#[derive(Clone, Copy)]
 pub enum Value {
     Null,
     Whole(i64),
