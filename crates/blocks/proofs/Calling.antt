@@ -9,7 +9,7 @@ use mathlib.Core.Option.{Option, none, some}
 use lib.Dec.{ltb}
 use lib.ListN.{length}
 use Rattle.fdoca.specs.declared.Listed.{Listed}
-use Rattle.fdoca.specs.Basics.{is_some, ◌>>=◌, ◌>>◌, reject}
+use Rattle.fdoca.specs.Basics.{is_some, ◌>>◌, reject}
 use Rattle.fdoca.specs.Item.{Field}
 use Rattle.fdoca.specs.Unfolding.{repeated}
 use Rattle.fdoca.specs.Calls.{small, list}

@@ -12,7 +12,7 @@ use lib.Dec.{eqb}
 use lib.ListN.{length, get_or, set, take, drop, length-drop, length-replicate}
 use lib.Seq.{get_or-set_same, length-take-le, get_or-take, get_or-drop}
 use borrow.Author.Tests.{eq-eqb, ne_eqb, eqb-true}
-use Rattle.fdoca.specs.Basics.{is_empty, product, lookup, is_some, refuse, ok, ◌>>=◌, ◌>>◌}
+use Rattle.fdoca.specs.Basics.{is_empty, product, lookup, is_some, refuse, ok}
 use Rattle.fdoca.specs.Triplet.{torn, triplet, triplets, Kind, construct_of, id_of, code_of, extents_of, Group, groups_of}
 use Rattle.fdoca.specs.FieldType.{FieldType, type_of}
 use Rattle.fdoca.specs.Item.{Field}

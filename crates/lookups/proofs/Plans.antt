@@ -7,7 +7,7 @@ use mathlib.Core.List.{List, [], ◌∷◌, map}
 use mathlib.Core.Option.{some}
 use lib.ListN.{length, get_or, get_elem?}
 use lib.Seq.{get_or-take}
-use Rattle.fdoca.specs.Basics.{Result, refuse, ◌>>=◌, the}
+use Rattle.fdoca.specs.Basics.{Result, refuse, the}
 use Rattle.fdoca.specs.Walk.{Note}
 use Rattle.fdoca.proofs.Table.{past_end}
 use Rattle.fdoca.proofs.Cover.{walk_covers, nth_stands}

@@ -8,7 +8,7 @@ use mathlib.Core.List.{List}
 use lib.Dec.{eqb}
 use lib.ListN.{length, get_or}
 use borrow.Author.Tests.{eq-eqb, ne_eqb}
-use Rattle.fdoca.specs.Basics.{if◌then◌else◌, refuse, ok, ◌>>=◌, ◌>>◌}
+use Rattle.fdoca.specs.Basics.{if◌then◌else◌, refuse, ok, ◌>>=◌}
 use Rattle.fdoca.specs.Triplet.{Kind, id_of, groups_of}
 use Rattle.fdoca.specs.Check.{is_described, good_length_row, check_row, check_cpt}
 use Rattle.plans.specs.Tied.{kind_of}

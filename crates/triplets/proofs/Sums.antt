@@ -11,7 +11,7 @@ use lib.Dec.{ltb, eqb}
 use borrow.Author.Tests.{lt-ltb, le-ltb, ne_eqb}
 use mir.Syntax.{w64}
 use mir.Val.{Fits}
-use Rattle.fdoca.specs.Basics.{refuse, ok, ◌>>=◌, ◌>>◌, reject}
+use Rattle.fdoca.specs.Basics.{refuse, ok, ◌>>◌, reject}
 use Rattle.fdoca.specs.Triplet.{Kind, rlo, gda}
 use Rattle.fdoca.specs.Check.{Entry, array, row, count_taken, good_column, fits, max_items, count_added, add_group}
 use Rattle.fdoca.proofs.Tests.{by_lt}

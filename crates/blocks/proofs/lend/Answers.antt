@@ -1,5 +1,4 @@
 use Rattle.blocks.proofs.Lending.{lent_part}
-use borrow.Author.Rules.{rules}
 use Rattle.blocks.proofs.lend.Goals as goal
 
 pub returns : goal.returns

@@ -1,5 +1,4 @@
 use Rattle.blocks.proofs.Decimals.{packed_refused, packed_other, packed_null, is_packing, packed_value}
-use borrow.Author.Rules.{rules}
 use Rattle.blocks.proofs.packed.Goals as goal
 
 pub returns-then-found-ne0 : goal.returns-then-found-ne0

@@ -1,5 +1,4 @@
 use Rattle.blocks.proofs.Calling.{without_rows}
-use borrow.Author.Rules.{rules}
 use Rattle.blocks.proofs.too_small.Goals as goal
 
 pub returns : goal.returns

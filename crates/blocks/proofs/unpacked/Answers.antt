@@ -1,6 +1,5 @@
 use borrow.Author.Tests.{not-true, not-false}
 use Rattle.blocks.proofs.Decimals.{digits_bad, digits_read}
-use borrow.Author.Rules.{rules}
 use Rattle.blocks.proofs.unpacked.Goals as goal
 
 pub returns-then-not-read : goal.returns-then-not-read

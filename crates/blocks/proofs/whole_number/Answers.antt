@@ -1,5 +1,4 @@
 use Rattle.blocks.proofs.Wholes.{whole_refused, whole_low, whole_high, whole_null, whole_read}
-use borrow.Author.Rules.{rules}
 use Rattle.blocks.proofs.whole_number.Goals as goal
 
 pub returns-then-found-ne0 : goal.returns-then-found-ne0

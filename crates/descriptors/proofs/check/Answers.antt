@@ -1,5 +1,4 @@
 use Rattle.descriptors.proofs.Callers.{as_checked}
-use borrow.Author.Rules.{rules}
 use Rattle.descriptors.proofs.check.Goals as goal
 
 pub returns : goal.returns

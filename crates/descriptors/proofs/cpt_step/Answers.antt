@@ -1,5 +1,4 @@
 use Rattle.descriptors.proofs.Stepping.{cpt_alone, cpt_refused, cpt_continued}
-use borrow.Author.Rules.{rules}
 use Rattle.descriptors.proofs.cpt_step.Goals as goal
 
 pub returns-then-x-eq0 : goal.returns-then-x-eq0

@@ -1,8 +1,5 @@
 use Rattle.descriptors.proofs.Examining.{oversized, at_first, first_last, at_next, last_next, next_fits, next_less, stopped, nothing, repeating, some_there, last_small, endless_end, finished}
-use Prim.Native.Nat.{◌-◌, ◌≤◌}
-use lib.ListN.{length}
 use borrow.Author.Rules.{rules}
-use Rattle.descriptors.specs.Holds.{Held, LastAt}
 use Rattle.descriptors.proofs.examine.Goals as goal
 
 pub returns-then-desc-gt4096 : goal.returns-then-desc-gt4096

@@ -1,5 +1,4 @@
 use Rattle.descriptors.proofs.Closing.{own_place, other_place}
-use borrow.Author.Rules.{rules}
 use Rattle.descriptors.proofs.row_place.Goals as goal
 
 pub returns-then-p-at-ne6 : goal.returns-then-p-at-ne6

@@ -1,5 +1,4 @@
 use Rattle.descriptors.proofs.Examining.{no_row, no_rlo, by_last}
-use borrow.Author.Rules.{rules}
 use Rattle.descriptors.proofs.to_the_end.Goals as goal
 
 pub returns-then-head-eq0 : goal.returns-then-head-eq0

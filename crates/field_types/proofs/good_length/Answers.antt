@@ -1,5 +1,4 @@
 use Rattle.field_types.proofs.Allowed.{replaces_nothing, length_judged}
-use borrow.Author.Rules.{rules}
 use Rattle.field_types.proofs.good_length.Goals as goal
 
 pub returns-then-length-eq0 : goal.returns-then-length-eq0

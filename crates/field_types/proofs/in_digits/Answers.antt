@@ -1,5 +1,4 @@
 use Rattle.field_types.proofs.Rows.{digits_told}
-use borrow.Author.Rules.{rules}
 use Rattle.field_types.proofs.in_digits.Goals as goal
 
 pub returns : goal.returns

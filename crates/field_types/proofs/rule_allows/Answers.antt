@@ -1,6 +1,5 @@
 use Rattle.fdoca.proofs.Tests.{tests}
 use Rattle.field_types.specs.Parameters.{rule_allows}
-use borrow.Author.Rules.{rules}
 use Rattle.field_types.proofs.rule_allows.Goals as goal
 
 pub returns-then-rule-bias : goal.returns-then-rule-bias

@@ -1,5 +1,4 @@
 -- The table holds the definitions' rules: the rule of each plain code is computed.
-use borrow.Author.Rules.{rules}
 use Rattle.fdoca.specs.FieldType.{rule_of}
 use Rattle.field_types.specs.Rows.{prefix_of, top_of, sizes_of, most_digits, default_number, size_at, form_of, in_numbers, rule_for, encoded, rule_at}
 use Rattle.field_types.proofs.Rows.{rule_found, rule_none}

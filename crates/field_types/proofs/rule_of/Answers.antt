@@ -1,5 +1,4 @@
 use Rattle.field_types.proofs.Rows.{rule_of_plain}
-use borrow.Author.Rules.{rules}
 use Rattle.field_types.proofs.rule_of.Goals as goal
 
 pub returns : goal.returns

@@ -1,6 +1,5 @@
 use Rattle.fdoca.proofs.Tests.{tests}
 use Rattle.field_types.specs.Parameters.{size_allowed}
-use borrow.Author.Rules.{rules}
 use Rattle.field_types.proofs.size_allowed.Goals as goal
 
 pub returns-then-rule-eq0 : goal.returns-then-rule-eq0

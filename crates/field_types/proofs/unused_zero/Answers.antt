@@ -1,6 +1,5 @@
 use Rattle.fdoca.proofs.Tests.{tests}
 use Rattle.field_types.specs.Parameters.{unused_zero}
-use borrow.Author.Rules.{rules}
 use Rattle.field_types.proofs.unused_zero.Goals as goal
 
 pub returns-then-ps-ne0 : goal.returns-then-ps-ne0

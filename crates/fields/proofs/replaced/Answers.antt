@@ -1,5 +1,4 @@
 use Rattle.fields.proofs.Replacing.{replaced_by_none, replaced_digits, replaced_length}
-use borrow.Author.Rules.{rules}
 use Rattle.fields.proofs.replaced.Goals as goal
 
 pub returns-then-size-eq0 : goal.returns-then-size-eq0

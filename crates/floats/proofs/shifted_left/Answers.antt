@@ -1,5 +1,3 @@
-use mathlib.Core.Path.{◌≡◌}
-use Prim.Native.Nat.{◌-◌, ◌*◌, ◌^◌, ◌≤◌, ◌<◌}
 use borrow.Author.Rules.{rules}
 use Rattle.floats.proofs.Shifts.{left_more}
 use Rattle.floats.proofs.shifted_left.Goals as goal

@@ -1,7 +1,5 @@
 use mathlib.Core.Path.{◌≡◌}
-use Prim.Native.Nat.{◌-◌, ◌*◌, ◌^◌, ◌≤◌, ◌<◌}
-use borrow.Author.Rules.{rules}
-use Rattle.floats.proofs.Shifts.{left_more}
+use Prim.Native.Nat.{◌*◌, ◌^◌, ◌≤◌, ◌<◌}
 use Rattle.floats.proofs.shifted_left.Given as goal
 
 abbrev pub invariant-loop-q : goal.invariant-loop-q

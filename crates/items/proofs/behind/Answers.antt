@@ -1,6 +1,5 @@
 -- `items::behind` meets its contract.
 -- Assumes nothing.
-use borrow.Author.Rules.{rules}
 use Rattle.fdoca.proofs.Tests.{tests}
 use Rattle.items.specs.Answer.{moved_by}
 use Rattle.items.proofs.behind.Goals as goal

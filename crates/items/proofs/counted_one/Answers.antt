@@ -1,6 +1,5 @@
 -- `items::counted_one` meets its contract.
 -- Assumes nothing.
-use borrow.Author.Rules.{rules}
 use Rattle.items.proofs.Ways.{one_ways}
 use Rattle.items.proofs.counted_one.Goals as goal
 

@@ -1,6 +1,5 @@
 -- `items::counted_two` meets its contract.
 -- Assumes nothing.
-use borrow.Author.Rules.{rules}
 use Rattle.items.proofs.Ways.{two_ways}
 use Rattle.items.proofs.counted_two.Goals as goal
 

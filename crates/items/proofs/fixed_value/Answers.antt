@@ -1,6 +1,5 @@
 -- `items::fixed_value` meets its contract.
 -- Assumes nothing.
-use borrow.Author.Rules.{rules}
 use Rattle.fdoca.proofs.Tests.{tests}
 use Rattle.fdoca.specs.Item.{measure_fixed}
 use Rattle.items.proofs.fixed_value.Goals as goal

@@ -1,6 +1,5 @@
 -- `items::indicator` meets its contract.
 -- Assumes nothing.
-use borrow.Author.Rules.{rules}
 use Rattle.terminated.specs.Answer.{answer}
 use Rattle.items.proofs.Ways.{indicator_ways}
 use Rattle.items.proofs.indicator.Goals as goal

@@ -1,6 +1,5 @@
 -- `items::ranged` meets its contract.
 -- Assumes nothing.
-use borrow.Author.Rules.{rules}
 use Rattle.items.proofs.Ways.{ranged_ways}
 use Rattle.items.proofs.ranged.Goals as goal
 

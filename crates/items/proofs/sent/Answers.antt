@@ -1,6 +1,5 @@
 -- `items::sent` meets its contract.
 -- Assumes nothing.
-use borrow.Author.Rules.{rules}
 use Rattle.fdoca.proofs.Tests.{tests}
 use Rattle.items.specs.Answer.{measure_sent}
 use Rattle.items.proofs.sent.Goals as goal

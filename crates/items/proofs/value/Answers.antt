@@ -1,6 +1,5 @@
 -- `items::value` meets its contract.
 -- Assumes nothing.
-use borrow.Author.Rules.{rules}
 use Rattle.fdoca.proofs.Tests.{tests}
 use Rattle.fdoca.specs.Item.{measure_value}
 use Rattle.field_types.specs.Rows.{layout_of}

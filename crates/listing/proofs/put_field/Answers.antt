@@ -1,6 +1,5 @@
 -- `listing::put_field` meets its contract.
 -- Assumes nothing.
-use borrow.Author.Rules.{rules}
 use Rattle.listing.proofs.Putting.{number_room, field_room, field_put, field_long}
 use Rattle.listing.proofs.put_field.Goals as goal
 

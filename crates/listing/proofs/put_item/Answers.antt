@@ -1,6 +1,5 @@
 -- `listing::put_item` meets its contract.
 -- Assumes nothing.
-use borrow.Author.Rules.{rules}
 use Rattle.listing.proofs.Words.{item_put}
 use Rattle.listing.proofs.put_item.Goals as goal
 

@@ -1,10 +1,7 @@
 -- `listing::put_items` meets its contract.
 -- Assumes nothing.
-use Prim.Native.Nat.{◌-◌}
-use mathlib.Core.Path.{◌≡◌}
 use borrow.Author.Rules.{rules}
-use lib.ListN.{length}
-use Rattle.listing.proofs.Going.{Going, no_lines, start_inside, line_more, lines_put, lines_long}
+use Rattle.listing.proofs.Going.{no_lines, start_inside, line_more, lines_put, lines_long}
 use Rattle.listing.proofs.put_items.Goals as goal
 
 pub loop-k-init : goal.loop-k-init

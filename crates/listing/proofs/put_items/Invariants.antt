@@ -2,9 +2,8 @@
 -- Assumes nothing.
 use Prim.Native.Nat.{◌-◌}
 use mathlib.Core.Path.{◌≡◌}
-use borrow.Author.Rules.{rules}
 use lib.ListN.{length}
-use Rattle.listing.proofs.Going.{Going, no_lines, start_inside, line_more, lines_put, lines_long}
+use Rattle.listing.proofs.Going.{Going}
 use Rattle.listing.proofs.put_items.Given as goal
 
 abbrev pub invariant-loop-k : goal.invariant-loop-k

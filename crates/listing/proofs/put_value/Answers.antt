@@ -1,6 +1,5 @@
 -- `listing::put_value` meets its contract.
 -- Assumes nothing.
-use borrow.Author.Rules.{rules}
 use Rattle.listing.proofs.Words.{null_put, length_put}
 use Rattle.listing.proofs.put_value.Goals as goal
 

@@ -1,9 +1,7 @@
 -- `listing::put_word` meets its contract.
 -- Assumes nothing.
-use Prim.Native.Nat.{◌-◌}
 use borrow.Author.Rules.{rules}
-use lib.ListN.{length}
-use Rattle.plans.proofs.Stores.{Stored, none_stored, one_more}
+use Rattle.plans.proofs.Stores.{none_stored, one_more}
 use Rattle.listing.proofs.Putting.{word_put}
 use Rattle.listing.proofs.put_word.Goals as goal
 

@@ -1,10 +1,8 @@
 -- `listing::put_word` meets its contract.
 -- Assumes nothing.
 use Prim.Native.Nat.{◌-◌}
-use borrow.Author.Rules.{rules}
 use lib.ListN.{length}
-use Rattle.plans.proofs.Stores.{Stored, none_stored, one_more}
-use Rattle.listing.proofs.Putting.{word_put}
+use Rattle.plans.proofs.Stores.{Stored}
 use Rattle.listing.proofs.put_word.Given as goal
 
 abbrev pub invariant-loop-k : goal.invariant-loop-k

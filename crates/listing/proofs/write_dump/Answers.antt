@@ -1,6 +1,5 @@
 -- `listing::write_dump` meets its contract.
 -- Assumes nothing.
-use borrow.Author.Rules.{rules}
 use Rattle.listing.proofs.File.{first_four, all_said, short_file, large_descriptor, large_data, other_length, whole_file}
 use Rattle.listing.proofs.write_dump.Goals as goal
 

@@ -1,5 +1,4 @@
 -- `panel::fdoca_check` meets its contract: it hands on each part of the check's answer. Assumes nothing.
-use borrow.Author.Rules.{rules}
 use Rattle.panel.proofs.Giving.{check_given}
 use Rattle.panel.proofs.fdoca_check.Goals as goal
 

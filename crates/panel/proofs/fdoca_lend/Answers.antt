@@ -1,5 +1,4 @@
 -- `panel::fdoca_lend` meets its contract: it hands on each part of the value's place. Assumes nothing.
-use borrow.Author.Rules.{rules}
 use Rattle.panel.proofs.Giving.{lent_given}
 use Rattle.panel.proofs.fdoca_lend.Goals as goal
 

@@ -1,4 +1,3 @@
-use borrow.Author.Rules.{rules}
 use Rattle.panel.proofs.Giving.{packed_given}
 use Rattle.panel.proofs.fdoca_packed.Goals as goal
 

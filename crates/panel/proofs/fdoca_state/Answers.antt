@@ -1,5 +1,4 @@
 -- `panel::fdoca_state` meets its contract: it hands on each part of the state call's answer. Assumes nothing.
-use borrow.Author.Rules.{rules}
 use Rattle.panel.proofs.Giving.{state_given}
 use Rattle.panel.proofs.fdoca_state.Goals as goal
 

@@ -1,6 +1,5 @@
-use mathlib.Core.Logic.{⊎_elim}
 use Rattle.plans.proofs.Rows.{start, within, refers, down, off, room, more, over, finish_place, finish_written}
-use Rattle.plans.proofs.Referred.{column_found, column_room, array_place, array_written, none_place, none_written, sda_room, sda_fits, sda_place, sda_written, row_made, row_room, copies_room, row_place, row_written}
+use Rattle.plans.proofs.Referred.{column_found, column_room, array_place, array_written, none_place, none_written, sda_room, sda_place, sda_written, row_made, row_room, copies_room, row_place, row_written}
 use native.Mathlib.Omega.{arith}
 use Rattle.plans.proofs.+expand_group.Goals as goal
 use Rattle.plans.proofs.+expand_group.Goals.{expand-then-g-end, expand-else-g-end+else-end-eq0}
@@ -20,8 +19,9 @@ expand-returns-then-end-eq0-clause-plan_after t c = search finish_written
 pub expand-loop-g-preserved : goal.expand-loop-g-preserved
 expand-loop-g-preserved t c =
     elim c.if-g-end.branch [
-      expand-then-g-end w ↦ rw (w.plan-is, w.a-is, w.end-is) (search more)
-    | expand-else-g-end+else-end-eq0 w ↦ rw (w.plan-is, w.a-is, w.end-is) (search over) ]
+      | expand-then-g-end w ↦ rw (w.plan-is, w.a-is, w.end-is) (search more)
+      | expand-else-g-end+else-end-eq0 w ↦ rw (w.plan-is, w.a-is, w.end-is) (search over)
+    ]
 
 pub group-column-requires : goal.group-column-requires
 group-column-requires t c = search (column_found, column_room)

@@ -1,6 +1,5 @@
 -- `plans::column` meets its contract.
 -- Assumes nothing.
-use borrow.Author.Rules.{rules}
 use Rattle.plans.proofs.Referred.{column_place, column_written}
 use Rattle.plans.proofs.column.Goals as goal
 

@@ -1,9 +1,6 @@
 -- `plans::copies` meets its contract.
 -- Assumes nothing.
-use Prim.Native.Nat.{◌-◌}
-use borrow.Author.Rules.{rules}
-use Rattle.fdoca.specs.Basics.{repeat}
-use Rattle.plans.proofs.Stores.{Stored, between, none_stored, copied_more, copied}
+use Rattle.plans.proofs.Stores.{none_stored, copied_more, copied}
 use Rattle.plans.proofs.copies.Goals as goal
 
 pub loop-k-init : goal.loop-k-init

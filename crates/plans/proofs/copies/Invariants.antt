@@ -1,9 +1,8 @@
 -- `plans::copies` meets its contract.
 -- Assumes nothing.
 use Prim.Native.Nat.{◌-◌}
-use borrow.Author.Rules.{rules}
 use Rattle.fdoca.specs.Basics.{repeat}
-use Rattle.plans.proofs.Stores.{Stored, between, none_stored, copied_more, copied}
+use Rattle.plans.proofs.Stores.{Stored, between}
 use Rattle.plans.proofs.copies.Given as goal
 
 abbrev pub invariant-loop-k : goal.invariant-loop-k

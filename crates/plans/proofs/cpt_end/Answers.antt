@@ -1,7 +1,5 @@
 -- `plans::cpt_end` meets its contract.
 -- Assumes nothing.
-use native.Mathlib.Omega.{arith}
-use borrow.Author.Rules.{rules}
 use Rattle.fdoca.proofs.Tests.{tests}
 use Rattle.plans.specs.Writing.{end_of_cpt}
 use Rattle.plans.proofs.cpt_end.Goals as goal

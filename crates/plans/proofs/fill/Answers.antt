@@ -1,9 +1,6 @@
 -- `plans::fill` meets its contract.
 -- Assumes nothing.
-use Prim.Native.Nat.{◌-◌}
-use borrow.Author.Rules.{rules}
-use lib.ListN.{replicate}
-use Rattle.plans.proofs.Stores.{Stored, none_stored, filled_more, filled}
+use Rattle.plans.proofs.Stores.{none_stored, filled_more, filled}
 use Rattle.plans.proofs.fill.Goals as goal
 
 pub loop-k-init : goal.loop-k-init

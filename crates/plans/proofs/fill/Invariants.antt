@@ -1,9 +1,8 @@
 -- `plans::fill` meets its contract.
 -- Assumes nothing.
 use Prim.Native.Nat.{◌-◌}
-use borrow.Author.Rules.{rules}
 use lib.ListN.{replicate}
-use Rattle.plans.proofs.Stores.{Stored, none_stored, filled_more, filled}
+use Rattle.plans.proofs.Stores.{Stored}
 use Rattle.plans.proofs.fill.Given as goal
 
 abbrev pub invariant-loop-k : goal.invariant-loop-k

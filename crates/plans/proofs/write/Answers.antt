@@ -1,6 +1,5 @@
 -- `plans::write` meets its contract.
 -- Assumes nothing.
-use borrow.Author.Rules.{rules}
 use Rattle.plans.proofs.Referred.{top_fits, top_made, top_room, top_written, all_room, all_written}
 use Rattle.plans.proofs.write.Goals as goal
 

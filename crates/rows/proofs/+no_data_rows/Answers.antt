@@ -1,5 +1,5 @@
 use Rattle.plans.proofs.Rows.{within, refers}
-use Rattle.rows.proofs.Passing.{pass_made, pass_fits}
+use Rattle.rows.proofs.Passing.{pass_made}
 use Rattle.rows.proofs.Layouts.{by_row, by_array, row_below, by_column, by_none, layout_here, by_layout, layout_below, begun, group_below, such_too, another, at_next, all_such}
 use Rattle.rows.proofs.+no_data_rows.Goals as goal
 use Rattle.rows.proofs.+no_data_rows.Goals.{endless_row-then-g-end+else-not-endless_group, endless_row-else-g-end+else-end-eq0}

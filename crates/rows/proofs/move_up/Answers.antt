@@ -1,7 +1,6 @@
 -- `rows::move_up` meets its contract.
 -- Assumes nothing.
-use borrow.Author.Rules.{rules}
-use Rattle.rows.proofs.Stores.{Moved, none_moved, one_moved, all_moved}
+use Rattle.rows.proofs.Stores.{none_moved, one_moved, all_moved}
 use Rattle.rows.proofs.move_up.Goals as goal
 
 pub loop-k-init : goal.loop-k-init

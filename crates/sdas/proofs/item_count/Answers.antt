@@ -1,5 +1,4 @@
 use Rattle.sdas.proofs.Sda.{count_fits, count_is, count_below}
-use borrow.Author.Rules.{rules}
 use Rattle.sdas.proofs.item_count.Goals as goal
 
 pub overflow_mul-result : goal.overflow_mul-result

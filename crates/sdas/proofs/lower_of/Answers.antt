@@ -1,5 +1,4 @@
 use Rattle.sdas.proofs.Entries.{lower_none, lower_some}
-use borrow.Author.Rules.{rules}
 use Rattle.sdas.proofs.lower_of.Goals as goal
 
 pub returns-then-t-eq12 : goal.returns-then-t-eq12

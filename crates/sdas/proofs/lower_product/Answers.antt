@@ -1,5 +1,4 @@
 use Rattle.sdas.proofs.Sda.{lower_fits, lower_is, lower_below}
-use borrow.Author.Rules.{rules}
 use Rattle.sdas.proofs.lower_product.Goals as goal
 
 pub overflow_mul-result : goal.overflow_mul-result

@@ -1,4 +1,3 @@
-use borrow.Author.Rules.{rules}
 use Rattle.sdas.proofs.Sda.{refused_is}
 use Rattle.sdas.proofs.refused.Goals as goal
 

@@ -1,7 +1,6 @@
 -- `terminated::bounded` meets its contract.
 -- Assumes nothing.
 use native.Mathlib.Omega.{arith}
-use borrow.Author.Rules.{rules}
 use Rattle.terminated.proofs.Ways.{window, bounded_ways}
 use Rattle.terminated.proofs.bounded.Goals as goal
 

@@ -1,6 +1,5 @@
 -- `terminated::endless` meets its contract.
 -- Assumes nothing.
-use borrow.Author.Rules.{rules}
 use Rattle.terminated.proofs.Ways.{endless_ways}
 use Rattle.terminated.proofs.endless.Goals as goal
 

@@ -1,10 +1,6 @@
 -- `terminated::first_zero` meets its contract. The invariant: none of the `i` bytes that were passed is zero.
 -- Assumes nothing.
-use Prim.Native.Nat.{◌≤◌, ◌+◌, ◌-◌}
-use mathlib.Core.Path.{◌≡◌}
 use borrow.Author.Rules.{rules}
-use lib.ListN.{length, drop}
-use Rattle.fdoca.specs.Item.{before_zero}
 use Rattle.terminated.proofs.Scan.{zero_start, zero_first, zero_second, zero_third, zero_fourth, four_later}
 use Rattle.terminated.proofs.first_zero.Goals as goal
 

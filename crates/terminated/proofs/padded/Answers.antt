@@ -1,7 +1,6 @@
 -- `terminated::padded` meets its contract.
 -- Assumes nothing.
 use native.Mathlib.Omega.{arith}
-use borrow.Author.Rules.{rules}
 use Rattle.terminated.proofs.Ways.{window, padded_ways}
 use Rattle.terminated.proofs.padded.Goals as goal
 

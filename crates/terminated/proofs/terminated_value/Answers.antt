@@ -1,6 +1,5 @@
 -- `terminated::terminated_value` meets its contract.
 -- Assumes nothing.
-use borrow.Author.Rules.{rules}
 use Rattle.fdoca.proofs.Tests.{tests}
 use Rattle.fdoca.specs.Item.{space}
 use Rattle.terminated.proofs.terminated_value.Goals as goal

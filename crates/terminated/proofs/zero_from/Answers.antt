@@ -1,10 +1,6 @@
 -- `terminated::zero_from` meets its contract. The invariant: none of the `i` bytes that were passed is zero.
 -- Assumes nothing.
-use Prim.Native.Nat.{◌≤◌, ◌+◌, ◌-◌}
-use mathlib.Core.Path.{◌≡◌}
 use borrow.Author.Rules.{rules}
-use lib.ListN.{length, drop}
-use Rattle.fdoca.specs.Item.{before_zero}
 use Rattle.terminated.proofs.Scan.{zero_here, zero_later, zero_none}
 use Rattle.terminated.proofs.zero_from.Goals as goal
 

@@ -1,6 +1,5 @@
 use Rattle.triplets.proofs.Sums.{column_row, column_extents, column_unsuited, column_added}
 use borrow.Author.Tests.{not-true, not-false}
-use borrow.Author.Rules.{rules}
 use Rattle.triplets.proofs.add_column.Goals as goal
 
 ruleset ways = (column_row, column_extents, column_unsuited, column_added)

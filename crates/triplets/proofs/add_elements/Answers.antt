@@ -1,5 +1,4 @@
 use Rattle.triplets.proofs.Sums.{some_times, group_rows, group_all, group_none, group_some, all_fits, some_fits}
-use borrow.Author.Rules.{rules}
 use Rattle.triplets.proofs.add_elements.Goals as goal
 
 ruleset ways = (some_times, group_rows, group_all, group_none, group_some)

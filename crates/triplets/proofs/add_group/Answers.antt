@@ -1,5 +1,4 @@
 use Rattle.triplets.proofs.Sums.{group_missing, of_array, of_row}
-use borrow.Author.Rules.{rules}
 use Rattle.triplets.proofs.add_group.Goals as goal
 
 pub returns-then-start-eq-NOWHERE : goal.returns-then-start-eq-NOWHERE

@@ -1,7 +1,4 @@
-use Rattle.triplets.proofs.Groups.{Adding, adding_start, group_second, group_third, adding_stop, adding_more, adding_end}
-use Prim.Native.Nat.{◌-◌}
-use lib.ListN.{length}
-use borrow.Author.Rules.{rules}
+use Rattle.triplets.proofs.Groups.{adding_start, group_second, group_third, adding_stop, adding_more, adding_end}
 use Rattle.triplets.proofs.add_groups.Goals as goal
 
 pub loop-g-init : goal.loop-g-init

@@ -1,7 +1,6 @@
-use Rattle.triplets.proofs.Groups.{Adding, adding_start, group_second, group_third, adding_stop, adding_more, adding_end}
+use Rattle.triplets.proofs.Groups.{Adding}
 use Prim.Native.Nat.{◌-◌}
 use lib.ListN.{length}
-use borrow.Author.Rules.{rules}
 use Rattle.triplets.proofs.add_groups.Given as goal
 
 abbrev pub invariant-loop-g : goal.invariant-loop-g

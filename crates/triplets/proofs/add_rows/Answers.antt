@@ -1,5 +1,4 @@
 use Rattle.triplets.proofs.Sums.{at_the_end, group_none, not_at_the_end, rows_all, rows_some}
-use borrow.Author.Rules.{rules}
 use borrow.Author.Tests.{not-true, not-false}
 use Rattle.triplets.proofs.add_rows.Goals as goal
 

@@ -1,6 +1,5 @@
 use Rattle.triplets.proofs.Isd.{isd_has_2, isd_has_3, isd_has_4, isd_id_lem, isd_subset, isd_no_version, isd_version_1, isd_version}
 use borrow.Author.Tests.{not-true, not-false}
-use borrow.Author.Rules.{rules}
 use Rattle.triplets.proofs.isd_good.Goals as goal
 
 pub bounds-t-2 : goal.bounds-t-2

@@ -1,7 +1,6 @@
 use Rattle.triplets.proofs.Isd.{isd_late, isd_bad_length, isd_bad_lem, isd_fine}
 use borrow.Author.Tests.{not-true, not-false}
 use Rattle.sdas.proofs.Outcomes.{is_true}
-use borrow.Author.Rules.{rules}
 use Rattle.triplets.proofs.judge_isd.Goals as goal
 
 pub returns-then-p-ne0 : goal.returns-then-p-ne0

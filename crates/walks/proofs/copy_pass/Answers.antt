@@ -1,8 +1,6 @@
 -- `walks::copy_pass` meets its contract.
 -- Assumes nothing.
-use Prim.Native.Nat.{◌-◌}
-use borrow.Author.Rules.{rules}
-use Rattle.walks.proofs.Passing.{Copied, none_copied, one_copied, all_copied}
+use Rattle.walks.proofs.Passing.{none_copied, one_copied, all_copied}
 use Rattle.walks.proofs.copy_pass.Goals as goal
 
 pub loop-i-init : goal.loop-i-init

@@ -1,8 +1,7 @@
 -- `walks::copy_pass` meets its contract.
 -- Assumes nothing.
 use Prim.Native.Nat.{◌-◌}
-use borrow.Author.Rules.{rules}
-use Rattle.walks.proofs.Passing.{Copied, none_copied, one_copied, all_copied}
+use Rattle.walks.proofs.Passing.{Copied}
 use Rattle.walks.proofs.copy_pass.Given as goal
 
 abbrev pub invariant-loop-i : goal.invariant-loop-i

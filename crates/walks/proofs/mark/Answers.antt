@@ -1,6 +1,5 @@
 -- `walks::mark` meets its contract.
 -- Assumes nothing.
-use borrow.Author.Rules.{rules}
 use Rattle.walks.proofs.Marking.{mark_stopped, mark_surplus, mark_ended}
 use Rattle.walks.proofs.mark.Goals as goal
 

@@ -1,11 +1,9 @@
 -- `walks::mark_part` meets its contract.
 -- Assumes nothing.
-use borrow.Author.Rules.{rules, set_long}
 use Prim.Native.Nat.{◌≤◌, ◌-◌}
 use mathlib.Core.Path.{◌≡◌}
 use lib.ListN.{length}
-use Rattle.walks.proofs.Steps.{step_inside}
-use Rattle.walks.proofs.Marking.{Marking, mark_start, mark_more, mark_stop, mark_done, reached_inside}
+use Rattle.walks.proofs.Marking.{Marking}
 use Rattle.walks.proofs.mark_part.Given as goal
 
 abbrev pub invariant-loop-k : goal.invariant-loop-k

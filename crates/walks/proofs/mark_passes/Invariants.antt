@@ -1,9 +1,8 @@
 -- `walks::mark_passes` meets its contract.
 -- Assumes nothing.
 use Prim.Native.Nat.{◌-◌}
-use borrow.Author.Rules.{rules}
 use lib.ListN.{length}
-use Rattle.walks.proofs.Passing.{Passing, pass_start, copy_apart, copy_fits, part_is_plan, pass_stop, pass_full, pass_more, pass_good}
+use Rattle.walks.proofs.Passing.{Passing}
 use Rattle.walks.proofs.mark_passes.Given as goal
 
 abbrev pub invariant-loop-at : goal.invariant-loop-at

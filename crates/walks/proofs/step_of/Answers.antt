@@ -1,6 +1,5 @@
 -- `walks::step_of` meets its contract.
 -- Assumes nothing.
-use borrow.Author.Rules.{rules}
 use Rattle.walks.proofs.Steps.{step_refused, step_null, step_value}
 use Rattle.walks.proofs.step_of.Goals as goal
 

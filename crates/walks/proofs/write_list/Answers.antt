@@ -1,11 +1,9 @@
 -- `walks::write_list` meets its contract.
 -- Assumes nothing.
-use Prim.Native.Nat.{◌+◌, ◌-◌, ◌*◌, ◌≤◌}
-use mathlib.Core.Path.{◌≡◌}
 use borrow.Author.Rules.{rules, set_long}
 use native.Mathlib.Omega.{arith}
-use lib.ListN.{length, length-set}
-use Rattle.walks.proofs.Writing.{Writing, room_kept, long_kept, write_start, write_more, write_done}
+use lib.ListN.{length-set}
+use Rattle.walks.proofs.Writing.{room_kept, long_kept, write_start, write_more, write_done}
 use Rattle.walks.proofs.write_list.Goals as goal
 
 pub bounds-list-1 : goal.bounds-list-1

@@ -2,10 +2,8 @@
 -- Assumes nothing.
 use Prim.Native.Nat.{◌+◌, ◌-◌, ◌*◌, ◌≤◌}
 use mathlib.Core.Path.{◌≡◌}
-use borrow.Author.Rules.{rules, set_long}
-use native.Mathlib.Omega.{arith}
-use lib.ListN.{length, length-set}
-use Rattle.walks.proofs.Writing.{Writing, room_kept, long_kept, write_start, write_more, write_done}
+use lib.ListN.{length}
+use Rattle.walks.proofs.Writing.{Writing}
 use Rattle.walks.proofs.write_list.Given as goal
 
 abbrev pub invariant-loop-k : goal.invariant-loop-k
