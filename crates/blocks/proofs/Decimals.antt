@@ -1,5 +1,6 @@
 -- The packed decimal that a found item's value is: the ways through `packed` and `unpacked`.
 -- Assumes nothing.
+use Rattle.std.specs.Prelude.{if◌then◌else◌}
 use mathlib.Core.Path.{◌≡◌, refl, sym, ap, ◌∙◌}
 use Prim.Native.Nat.{ℕ, ◌+◌, ◌-◌, ◌*◌, ◌/◌, ◌%◌, ◌≤◌}
 use native.Mathlib.Omega.{arith}
@@ -15,7 +16,7 @@ use mir.Val.{SFits, to_z, of_z}
 use mir.ValLaws.{to_z-of_z}
 use borrow.Author.Tests.{leb-true}
 use Rattle.fdoca.specs.declared.Decimal.{Decimal}
-use Rattle.fdoca.specs.Basics.{if◌then◌else◌, Result, refuse, ok, ◌>>=◌, the}
+use Rattle.fdoca.specs.Basics.{Result, refuse, ok, ◌>>=◌, the}
 use Rattle.fdoca.specs.FieldType.{packed_decimal, plain, Size, bytes, digits, fixed, rule_of}
 use Rattle.fdoca.specs.Walk.{Note}
 use Rattle.fdoca.specs.Packed.{packed_number}

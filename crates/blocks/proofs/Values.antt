@@ -1,5 +1,6 @@
 -- The value of a found item: the ways through `value`.
 -- Assumes nothing.
+use Rattle.std.specs.Prelude.{if◌then◌else◌}
 use mathlib.Core.Path.{◌≡◌, refl, sym, ap, ◌∙◌}
 use Prim.Native.Nat.{ℕ, ◌+◌, ◌-◌, ◌/◌, ◌%◌, ◌≤◌}
 use native.Mathlib.Omega.{arith}
@@ -12,7 +13,7 @@ use lib.Seq.{length-take-le}
 use Rattle.fdoca.specs.declared.Value.{Value}
 use Rattle.fdoca.specs.declared.Value.TheVariants.{Null}
 use Rattle.fdoca.specs.declared.Valued.{Valued}
-use Rattle.fdoca.specs.Basics.{if◌then◌else◌, lookup, is_some, Result, refuse, ok, ◌>>=◌, the}
+use Rattle.fdoca.specs.Basics.{lookup, is_some, Result, refuse, ok, ◌>>=◌, the}
 use Rattle.fdoca.specs.FieldType.{type_of, types, plain}
 use Rattle.fdoca.specs.Item.{field_length}
 use Rattle.fdoca.specs.Walk.{Note}

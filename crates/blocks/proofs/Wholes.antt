@@ -1,5 +1,6 @@
 -- The whole number that a found item's value is.
 -- Assumes nothing.
+use Rattle.std.specs.Prelude.{if◌then◌else◌}
 use mathlib.Core.Path.{◌≡◌, refl, sym, ap, ◌∙◌}
 use Prim.Native.Nat.{ℕ, ◌+◌, ◌-◌, ◌/◌, ◌%◌, ◌≤◌, ◌<◌}
 use native.Mathlib.Omega.{arith}
@@ -15,7 +16,7 @@ use mir.Val.{SFits, to_z, of_z}
 use mir.ValLaws.{to_z-of_z}
 use borrow.Author.Tests.{eqb-true, eqb-false}
 use Rattle.fdoca.specs.declared.Whole.{Whole}
-use Rattle.fdoca.specs.Basics.{if◌then◌else◌, Result, refuse, ok, ◌>>=◌, the}
+use Rattle.fdoca.specs.Basics.{Result, refuse, ok, ◌>>=◌, the}
 use Rattle.fdoca.specs.FieldType.{FieldType, fixed_bytes, variable_bytes, terminated_bytes, short_bytes, integer, reversed_integer, packed_decimal, hex_float, reversed_float, binary_float, Size, in_bytes, fixed, one_of, plain, allows, rule_of}
 use Rattle.fdoca.specs.Walk.{Note}
 use Rattle.fdoca.specs.Calls.{item_at, value_of, whole_of, whole_number, whole_answer}

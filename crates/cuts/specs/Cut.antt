@@ -1,6 +1,6 @@
 -- How the cut of a block stands to its items.
-use Rattle.std.specs.Prelude.{ℕ, ◌≤◌, ◌≡◌, List, map, length, take}
-use Rattle.fdoca.specs.Basics.{if◌then◌else◌, Result, ok}
+use Rattle.std.specs.Prelude.{ℕ, ◌≤◌, ◌≡◌, List, map, length, take, if◌then◌else◌}
+use Rattle.fdoca.specs.Basics.{Result, ok}
 use Rattle.fdoca.specs.Walk.{Note, walk_by}
 use Rattle.fdoca.specs.Unfolding.{unfolded, repeated}
 use Rattle.descriptors.specs.declared.Examined.{Examined}

@@ -1,5 +1,6 @@
 -- The check from the first triplet to the last, and what an accepted descriptor leaves in the tables.
 -- Assumes nothing.
+use Rattle.std.specs.Prelude.{if◌then◌else◌}
 use mathlib.Core.Path.{◌≡◌, refl, sym, ap, ◌∙◌}
 use mathlib.Core.Logic.{◌≢◌}
 use Prim.Native.Nat.{ℕ, ◌+◌, ◌-◌, ◌≤◌, ◌<◌}
@@ -13,7 +14,7 @@ use lib.ListN.{length, get_or, take, drop, replicate, length-replicate, get_or-r
 use mir.Syntax.{w64}
 use mir.Val.{Fits}
 use borrow.Author.Tests.{lt-ltb, le-ltb, eq-eqb, ne_eqb}
-use Rattle.fdoca.specs.Basics.{if◌then◌else◌, is_some, lookup, refuse, ok, ◌>>=◌, ◌>>◌, reject}
+use Rattle.fdoca.specs.Basics.{is_some, lookup, refuse, ok, ◌>>=◌, ◌>>◌, reject}
 use Rattle.fdoca.specs.Triplet.{triplet, triplets, last_place, Kind, rlo, gda, Group, taken}
 use Rattle.fdoca.specs.Item.{Field}
 use Rattle.fdoca.specs.Check.{check_triplets, last_count, is_endless, check}

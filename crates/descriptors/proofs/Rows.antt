@@ -1,5 +1,6 @@
 -- The groups of a row in the descriptor's bytes: a triplet's own, then those of the CPT behind it, or the end.
 -- Assumes nothing.
+use Rattle.std.specs.Prelude.{if◌then◌else◌}
 use mathlib.Core.Path.{◌≡◌, refl, sym, ap, ◌∙◌, subst}
 use mathlib.Core.Logic.{◌≢◌}
 use Prim.Native.Nat.{ℕ, suc, ◌+◌, ◌-◌, ◌%◌, ◌≤◌, ◌<◌}
@@ -10,7 +11,6 @@ use lib.Dec.{ltb, eqb}
 use lib.ListN.{length, get_or, take, drop, length-drop, take-append-drop}
 use lib.Seq.{drop-cons, drop-drop, drop-append-le, length-take-le, get_or-drop}
 use borrow.Author.Tests.{lt-ltb, eq-eqb, ne_eqb}
-use Rattle.fdoca.specs.Basics.{if◌then◌else◌}
 use Rattle.fdoca.specs.Triplet.{Group, threes, groups_of}
 use Rattle.plans.specs.Tied.{groups_in, case_of, Groups}
 use Rattle.triplets.specs.Judged.{GoodRow}

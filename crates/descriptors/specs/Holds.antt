@@ -1,7 +1,7 @@
 -- What the check knows before each triplet, and of an accepted descriptor in the end.
-use Rattle.std.specs.Prelude.{ℕ, ◌+◌, ◌-◌, ◌≤◌, ◌<◌, ◌≡◌, ◌≢◌, Bool, true, false, List, [], ◌∷◌, ◌++◌, length, get_or, drop, eqb}
+use Rattle.std.specs.Prelude.{ℕ, ◌+◌, ◌-◌, ◌≤◌, ◌<◌, ◌≡◌, ◌≢◌, Bool, true, false, List, [], ◌∷◌, ◌++◌, length, get_or, drop, eqb, if◌then◌else◌}
 use Rattle.std.proofs.Math.Option.{Option, none, some}
-use Rattle.fdoca.specs.Basics.{if◌then◌else◌, is_some, product, lookup, Result, refuse, ok}
+use Rattle.fdoca.specs.Basics.{is_some, product, lookup, Result, refuse, ok}
 use Rattle.fdoca.specs.Triplet.{triplets, last_place, Kind, Group, id_of, code_of, extents_of}
 use Rattle.fdoca.specs.Item.{Field}
 use Rattle.fdoca.specs.Check.{Entry, good_sda, check_sda, check_row, check_cpt, check_triplets, begin, check}

@@ -1,5 +1,6 @@
 -- Measuring accepts exactly the bytes that begin with an item of the standard's account, with its null mark and the lengths of its parts.
 -- Assumes nothing.
+use Rattle.std.specs.Prelude.{if◌then◌else◌}
 use mathlib.Core.Path.{◌≡◌, refl, sym, ap, ◌∙◌}
 use mathlib.Core.Logic.{◌≢◌}
 use Prim.Native.Nat.{ℕ, suc, ◌+◌, ◌-◌, ◌*◌, ◌%◌, ◌≤◌, ◌<◌, min}
@@ -10,7 +11,7 @@ use lib.Dec.{leb, ltb, eqb}
 use lib.ListN.{length, take, drop, length-append, length-drop, take-append-drop}
 use lib.Seq.{take_at, length-take-le}
 use borrow.Author.Tests.{ltb-true, ltb-false, leb-false, eqb-true, eqb-false, lt-ltb, le-ltb, le-leb, lt-leb, eq-eqb, ne_eqb}
-use Rattle.fdoca.specs.Basics.{if◌then◌else◌, big, in_base}
+use Rattle.fdoca.specs.Basics.{big, in_base}
 use Rattle.fdoca.specs.FieldType.{FieldType, fixed_bytes, variable_bytes, terminated_bytes, short_bytes, integer, reversed_integer, packed_decimal, hex_float, reversed_float, binary_float, LengthField, signed_two, unsigned_one, fixed, Size, bytes, digits, in_bytes, rule_of}
 use Rattle.fdoca.specs.Item.{Field, field_length, Measured, refused, item, Space, unbounded, limited, reserved, space, width, is_negative, is_over, unused, indicated, before_zero, measure_fixed, measure_body, measure_counted, measure_terminated, measure_value, measure_nullable, measure_item, measure}
 use Rattle.fdoca.specs.Account.{FixedLength, string, binary, binary_reversed, packed, hex_float_lem, float_reversed, float, Fills, of_bytes, of_half_bytes, one_unused, Reserved, no_limit, value_only, all_sent, NonZero, none_left, one_more, Value, of_size, after_two, after_one, before_zero_lem, Item, plain, null, value, Parts, Begins}

@@ -1,5 +1,6 @@
 -- The calls refuse for the first reason in document 01's order, and accept where there is none: list, state with lending, and whole number.
 -- Assumes nothing.
+use Rattle.std.specs.Prelude.{if◌then◌else◌}
 use mathlib.Core.Path.{◌≡◌, refl, sym, ap, ◌∙◌}
 use mathlib.Core.Logic.{◌⊎◌, inl, inr}
 use Prim.Native.Nat.{ℕ, suc, ◌+◌, ◌*◌, ◌≤◌, ◌<◌}
@@ -10,7 +11,7 @@ use mathlib.Core.Option.{Option, none, some}
 use lib.IntN.{ℤ, pos}
 use lib.ListN.{length, get_elem?}
 use borrow.Author.Tests.{ltb-true, ltb-false}
-use Rattle.fdoca.specs.Basics.{if◌then◌else◌, is_some, Result, refuse, ok, ◌>>=◌, ◌>>◌, reject, the}
+use Rattle.fdoca.specs.Basics.{is_some, Result, refuse, ok, ◌>>=◌, ◌>>◌, reject, the}
 use Rattle.fdoca.specs.FieldType.{FieldType, fixed_bytes, variable_bytes, terminated_bytes, short_bytes, integer, reversed_integer, packed_decimal, hex_float, reversed_float, binary_float, type_of}
 use Rattle.fdoca.specs.Item.{Field}
 use Rattle.fdoca.specs.Walk.{Note, walk_by}

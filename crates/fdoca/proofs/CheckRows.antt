@@ -1,5 +1,6 @@
 -- The check refuses a descriptor for its first reason in document 01's order, and accepts it where it has none.
 -- Assumes nothing.
+use Rattle.std.specs.Prelude.{if◌then◌else◌}
 use mathlib.Core.Path.{◌≡◌, refl, sym, ap, ◌∙◌}
 use mathlib.Core.Logic.{◌⊎◌, inl, inr}
 use Prim.Native.Nat.{ℕ, zero, suc, ◌+◌, ◌-◌, ◌≤◌, ◌<◌}
@@ -10,7 +11,7 @@ use mathlib.Core.Option.{Option, none, some}
 use lib.Dec.{ltb, eqb}
 use lib.ListN.{length}
 use borrow.Author.Tests.{ltb-true, ltb-false, eqb-true, eqb-false, eq-eqb}
-use Rattle.fdoca.specs.Basics.{if◌then◌else◌, is_empty, lookup, Result, refuse, ok, ◌>>=◌, ◌>>◌, reject}
+use Rattle.fdoca.specs.Basics.{is_empty, lookup, Result, refuse, ok, ◌>>=◌, ◌>>◌, reject}
 use Rattle.fdoca.specs.Triplet.{triplets, last_place, Kind, rlo, gda, Group}
 use Rattle.fdoca.specs.Triplet as T
 use Rattle.fdoca.specs.Check.{Entry, State, closed, max_descriptor, check_triplet, check_triplets, begin, last_count, is_endless, check}

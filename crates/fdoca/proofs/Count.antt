@@ -1,6 +1,7 @@
 -- The count that the check gives of an accepted descriptor is the length of its unfolding.
 -- The check's state is at every triplet the image of the unfolding's: type codes and extents for fields with extents, counts for lists.
 -- Assumes nothing.
+use Rattle.std.specs.Prelude.{if◌then◌else◌}
 use mathlib.Core.Path.{◌≡◌, refl, sym, ap, ◌∙◌}
 use Prim.Native.Nat.{ℕ, zero, suc, ◌+◌, ◌*◌}
 use native.Mathlib.Omega.{arith}
@@ -11,7 +12,7 @@ use mathlib.Core.Option.{Option, none, some}
 use lib.Dec.{ltb, eqb}
 use borrow.Author.Tests.{not-false}
 use lib.ListN.{length, length-append, length-replicate}
-use Rattle.fdoca.specs.Basics.{if◌then◌else◌, elem, lookup, is_empty, repeat, product, ok}
+use Rattle.fdoca.specs.Basics.{elem, lookup, is_empty, repeat, product, ok}
 use Rattle.fdoca.specs.Triplet.{Triplet, torn, triplet, triplets, last_place, Kind, rlo, gda, Construct, sda, isd, cpt, grouped, construct_of, id_of, code_of, parameters_of, extents_of, Group, taken, factor, groups_of}
 use Rattle.fdoca.specs.FieldType.{FieldType, type_of}
 use Rattle.fdoca.specs.Item.{Field}

@@ -6,6 +6,7 @@
 -- For a descriptor with rows to the end (document 02, Q-5), `repeated d ≡ some rows`, a second set of statements says this of the fields before the rows
 -- and some number of whole passes; the first set is for all others, `repeated d ≡ none`.
 -- Assumes nothing.
+use Rattle.std.specs.Prelude.{if◌then◌else◌}
 use mathlib.Core.Path.{◌≡◌, refl, sym, ap, ◌∙◌}
 use mathlib.Core.Logic.{◌↔◌, inr}
 use Prim.Native.Nat.{ℕ, suc, ◌+◌, ◌*◌, ◌/◌, ◌^◌, ◌≤◌, ◌<◌}
@@ -18,7 +19,7 @@ use lib.Ieee.{Float, binary64, fits, to_bits}
 use lib.IntN.{ℤ, pos}
 use lib.ListN.{length, drop, get_or, get_elem?}
 use borrow.Author.Tests.{le-ltb, lt-ltb}
-use Rattle.fdoca.specs.Basics.{if◌then◌else◌, big, Result, refuse, ok, ◌>>=◌, ◌>>◌, reject, the}
+use Rattle.fdoca.specs.Basics.{big, Result, refuse, ok, ◌>>=◌, ◌>>◌, reject, the}
 use Rattle.fdoca.specs.FieldType.{FieldType, terminated_bytes, fixed, type_of, bytes, digits, size_of, rule_of}
 use Rattle.fdoca.specs.Triplet.{gda, code_of, parameters_of}
 use Rattle.fdoca.specs.Item.{Field, with_size, refused, measure}

@@ -1,6 +1,7 @@
 -- A descriptor that may end in a group with repetition 0: the group is the last of the last triplet, what it refers to is described, and 22 is told of it
 -- alone.
 -- Assumes nothing.
+use Rattle.std.specs.Prelude.{if◌then◌else◌}
 use mathlib.Core.Path.{◌≡◌, refl, sym, ap, ◌∙◌}
 use mathlib.Core.Logic.{◌⊎◌, inl, inr}
 use Prim.Native.Nat.{ℕ, zero, suc, ◌+◌, ◌-◌, ◌*◌, ◌≤◌, ◌<◌}
@@ -12,7 +13,7 @@ use mathlib.Core.Option.{Option, none, some}
 use lib.Dec.{eqb}
 use lib.ListN.{length, get_or}
 use borrow.Author.Tests.{eqb-true, eq-eqb}
-use Rattle.fdoca.specs.Basics.{if◌then◌else◌, is_empty, lookup}
+use Rattle.fdoca.specs.Basics.{is_empty, lookup}
 use Rattle.fdoca.specs.Triplet as T
 use Rattle.fdoca.specs.Triplet.{Triplet, triplets, last_place, Kind, rlo, gda}
 use Rattle.fdoca.specs.Item.{Field, field_length}

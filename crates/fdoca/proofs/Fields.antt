@@ -1,6 +1,7 @@
 -- The fields of an accepted descriptor: each has the type of its code, a size and a mode that the type allows. A value of fixed length has
 -- the field length.
 -- Assumes nothing.
+use Rattle.std.specs.Prelude.{if◌then◌else◌}
 use mathlib.Core.Path.{◌≡◌, refl, sym, ap, ◌∙◌}
 use mathlib.Core.Logic.{◌⊎◌, inl, inr}
 use Prim.Native.Nat.{ℕ, zero, suc, ◌+◌, ◌*◌, ◌/◌, ◌%◌, ◌≤◌}
@@ -11,7 +12,7 @@ use mathlib.Core.Option.{Option, none, some}
 use lib.Dec.{ltb, eqb}
 use borrow.Author.Tests.{not-false}
 use lib.ListN.{length, drop, replicate, get_elem?}
-use Rattle.fdoca.specs.Basics.{if◌then◌else◌, elem, lookup, is_empty, repeat, product, Result, ok, the}
+use Rattle.fdoca.specs.Basics.{elem, lookup, is_empty, repeat, product, Result, ok, the}
 use Rattle.fdoca.specs.FieldType.{FieldType, fixed_bytes, variable_bytes, terminated_bytes, short_bytes, integer, reversed_integer, packed_decimal, hex_float, reversed_float, binary_float, Layout, fixed, counted, terminated, Size, bytes, digits, Sizes, up_to, one_of, digits_up_to, size_of, allows, replaces, type_of, rule_of, nullable}
 use Rattle.fdoca.specs.Triplet.{Triplet, torn, triplet, triplets, Kind, rlo, gda, Construct, sda, isd, cpt, grouped, construct_of, id_of, code_of, parameters_of, extents_of, Group, taken, factor, groups_of}
 use Rattle.fdoca.specs.Item.{Field, field_length, Measured, refused, item, indicated, measure_fixed, measure_value, measure_nullable, measure_item, measure}

@@ -1,5 +1,6 @@
 -- The dump program prints the refusal of its file's first reason in document 01's order, and the listing where there is none.
 -- Assumes nothing.
+use Rattle.std.specs.Prelude.{if◌then◌else◌}
 use mathlib.Core.Path.{◌≡◌, refl}
 use mathlib.Core.Logic.{◌≢◌, ◌⊎◌, inl, inr}
 use Prim.Native.Nat.{ℕ, ◌+◌, ◌*◌, ◌≤◌, ◌<◌}
@@ -9,7 +10,7 @@ use mathlib.Core.List.{List, [], ◌∷◌}
 use lib.Dec.{ltb, eqb}
 use lib.ListN.{length, take, drop, length-drop}
 use borrow.Author.Tests.{ltb-true, ltb-false, eqb-true, eqb-false, not-true, not-false}
-use Rattle.fdoca.specs.Basics.{if◌then◌else◌, big, in_base, Result, ◌>>◌, reject, ok}
+use Rattle.fdoca.specs.Basics.{big, in_base, Result, ◌>>◌, reject, ok}
 use Rattle.fdoca.specs.Walk.{Note, walk_by}
 use Rattle.fdoca.specs.Check.{max_descriptor, check}
 use Rattle.fdoca.specs.Unfolding.{unfolded, repeated}

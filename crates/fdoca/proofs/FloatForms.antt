@@ -1,5 +1,6 @@
 -- The four formats: which bits have a 64-bit float, and what it is.
 -- Assumes nothing.
+use Rattle.std.specs.Prelude.{if◌then◌else◌}
 use mathlib.Core.Path.{◌≡◌, refl, sym, ◌∙◌, subst}
 use Prim.Native.Nat.{ℕ, zero, suc, ◌+◌, ◌-◌, ◌*◌, ◌/◌, ◌%◌, ◌^◌, ◌<◌, ◌≤◌}
 use native.Mathlib.Nat.{mul-one, lt_of_lt_of_le}
@@ -14,7 +15,6 @@ use lib.Ieee.Exact.{HasValue, odd_sign}
 use lib.Ieee.Fits.{odd-fits}
 use lib.Ieee.Bits.{of_bits-fits, nan_bits_is, to_bits-of_bits}
 use borrow.Author.Tests.{lt-ltb, le-ltb, ltb-true, ltb-false, ne_eqb, eqb-false}
-use Rattle.fdoca.specs.Basics.{if◌then◌else◌}
 use Rattle.fdoca.specs.Float.{Equal, equal_float, Format, short_hexadecimal, long_hexadecimal, short_binary, long_binary, is_negative, characteristic, fraction, binary, number_of, float_of}
 use Rattle.fdoca.specs.Reasons.{Over53}
 use Rattle.fdoca.proofs.Tests.{by_eq, at_least}

@@ -1,5 +1,6 @@
 -- A number and the 64-bit floats: of all floats at most one equals it, its canonical form; and where there is one.
 -- Assumes nothing.
+use Rattle.std.specs.Prelude.{if◌then◌else◌}
 use mathlib.Core.Path.{◌≡◌, refl, sym, ap, ◌∙◌}
 use Prim.Native.Nat.{ℕ, zero, suc, ◌+◌, ◌*◌, ◌/◌, ◌%◌, ◌^◌, ◌<◌, ◌≤◌}
 use native.Mathlib.Nat.{pow-suc, zero-lt-suc, zero-mul, one-mul, mul-one, mul_assoc, mul_right_comm, mul-le-mul_left, mul-pos, mul-div_cancel, eq_of_mul-eq-mul_right}
@@ -15,7 +16,6 @@ use lib.Ieee.Exact.{HasValue, odd_sign}
 use lib.Ieee.Digits.{size-lt, minus_val}
 use lib.Ieee.Fits.{and_l, and_r, odd-fits}
 use lib.Ieee.Bits.{is_true}
-use Rattle.fdoca.specs.Basics.{if◌then◌else◌}
 use Rattle.fdoca.specs.Float.{Number, Equal, ups, downs, canonical, equal_float}
 use Rattle.fdoca.specs.Reasons.{Over53}
 

@@ -1,5 +1,6 @@
 -- The check of the groups of an RLO, a GDA or a CPT refuses the first one that has a reason, for its first reason, and counts the items of those that have none.
 -- Assumes nothing.
+use Rattle.std.specs.Prelude.{if◌then◌else◌}
 use mathlib.Core.Path.{◌≡◌, refl, sym, ◌∙◌}
 use mathlib.Core.Logic.{◌≢◌}
 use Prim.Native.Nat.{ℕ, zero, suc, ◌+◌, ◌*◌, ◌≤◌, ◌<◌}
@@ -10,7 +11,7 @@ use mathlib.Core.Option.{Option, none, some}
 use lib.Dec.{ltb, eqb}
 use lib.ListN.{length, drop}
 use borrow.Author.Tests.{ltb-true, ltb-false, eqb-true, eqb-false, lt-ltb}
-use Rattle.fdoca.specs.Basics.{if◌then◌else◌, lookup, is_empty, product, Result, ok, ◌>>=◌, ◌>>◌, reject, the}
+use Rattle.fdoca.specs.Basics.{lookup, is_empty, product, Result, ok, ◌>>=◌, ◌>>◌, reject, the}
 use Rattle.fdoca.specs.FieldType.{replaces, type_of}
 use Rattle.fdoca.specs.Triplet.{Kind, rlo, gda, threes}
 use Rattle.fdoca.specs.Check as C

@@ -1,5 +1,6 @@
 -- Null indicators (document 02, Q-8): an item with a bad one is refused with 24, and all else is as it was with their low bits not looked at.
 -- Assumes nothing.
+use Rattle.std.specs.Prelude.{if◌then◌else◌}
 use mathlib.Core.Path.{◌≡◌, refl, sym, ap, ◌∙◌}
 use mathlib.Core.Logic.{◌↔◌}
 use Prim.Native.Nat.{ℕ, zero, suc, ◌+◌, ◌≤◌, ◌<◌}
@@ -10,7 +11,7 @@ use lib.Dec.{leb, ltb, eqb}
 use lib.ListN.{length, drop}
 use lib.Seq.{drop-drop}
 use borrow.Author.Tests.{le-leb, lt-leb, ne_eqb, leb-true, leb-false, eqb-true, eqb-false}
-use Rattle.fdoca.specs.Basics.{if◌then◌else◌, Result, refuse, ok, ◌>>=◌, ◌>>◌, reject}
+use Rattle.fdoca.specs.Basics.{Result, refuse, ok, ◌>>=◌, ◌>>◌, reject}
 use Rattle.fdoca.specs.FieldType.{Layout, rule_of, nullable}
 use Rattle.fdoca.specs.Item.{Field, field_length, Measured, refused, item, measure_value, indicated, measure_nullable, measure_item, measure}
 use Rattle.fdoca.specs.Walk.{Note, item_length, Cut, note_of, with, cut_from, walk, walk_by}

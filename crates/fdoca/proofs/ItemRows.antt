@@ -1,6 +1,7 @@
 -- Measuring and the rows 13, 14, 15 and 24 of the table of numbers: an item that is measured has none of their reasons; bytes that are refused have one with
 -- the refusal's number, and every other one belongs to a later step.
 -- Assumes nothing.
+use Rattle.std.specs.Prelude.{if◌then◌else◌}
 use mathlib.Core.Path.{◌≡◌, refl, sym, ap, ◌∙◌}
 use mathlib.Core.Logic.{◌≢◌}
 use Prim.Native.Nat.{ℕ, zero, suc, ◌+◌, ◌≤◌, ◌<◌}
@@ -11,7 +12,7 @@ use mathlib.Core.Option.{some}
 use lib.Dec.{eqb}
 use lib.ListN.{length, take}
 use borrow.Author.Tests.{eqb-true, leb-true, eqb-false, le-leb, ne_eqb}
-use Rattle.fdoca.specs.Basics.{if◌then◌else◌, lookup, big, elem}
+use Rattle.fdoca.specs.Basics.{lookup, big, elem}
 use Rattle.fdoca.specs.FieldType.{FieldType, fixed_bytes, variable_bytes, terminated_bytes, short_bytes, integer, reversed_integer, packed_decimal, hex_float, reversed_float, binary_float, types, plain, type_of, LengthField, signed_two, unsigned_one, Layout, fixed, counted, terminated, rule_of}
 use Rattle.fdoca.specs.Item.{Field, field_length, Measured, refused, item, Space, unbounded, limited, reserved, space, width, is_negative, is_over, indicated, before_zero, measure_value, measure_nullable, measure_item, measure}
 use Rattle.fdoca.specs.Account.{FixedLength, string, binary, binary_reversed, packed, hex_float_lem, float_reversed, float}

@@ -1,5 +1,6 @@
 -- An accepted descriptor describes at most 4,096 items.
 -- Assumes nothing.
+use Rattle.std.specs.Prelude.{if◌then◌else◌}
 use mathlib.Core.Path.{◌≡◌}
 use Prim.Native.Nat.{ℕ, ◌+◌, ◌≤◌}
 use native.Mathlib.Omega.{arith}
@@ -9,7 +10,7 @@ use mathlib.Core.Option.{Option, none, some}
 use lib.Dec.{ltb, eqb}
 use lib.ListN.{length}
 use borrow.Author.Tests.{ltb-false}
-use Rattle.fdoca.specs.Basics.{if◌then◌else◌, is_empty, product, lookup, ok}
+use Rattle.fdoca.specs.Basics.{is_empty, product, lookup, ok}
 use Rattle.fdoca.specs.Triplet.{Triplet, torn, triplet, triplets, last_place, Kind, Construct, sda, isd, cpt, grouped, construct_of, id_of, code_of, extents_of, Group, groups_of}
 use Rattle.fdoca.specs.Check.{Entry, array, State, close_row, closed, count_of, is_described, max_items, max_descriptor, count_added, add_group, add_groups, good_length_sda, good_sda, good_length_row, good_length_isd, good_isd, check_sda, check_row, check_cpt, check_isd, check_construct, check_triplet, check_triplets, begin, last_count, is_endless, check}
 use Rattle.fdoca.specs.Unfolding.{repeated}

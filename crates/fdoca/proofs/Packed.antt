@@ -1,6 +1,7 @@
 -- A packed decimal's number is the one that the standard's account gives its bytes: each run of digits with a sign, written in half-bytes, reads back,
 -- and nothing else is read. Where nothing is, a digit, the sign or the unused half-byte is bad.
 -- Assumes nothing.
+use Rattle.std.specs.Prelude.{if◌then◌else◌}
 use mathlib.Core.Path.{◌≡◌, refl, sym, ap, ◌∙◌}
 use Prim.Native.Nat.{ℕ, zero, suc, ◌+◌, ◌*◌, ◌/◌, ◌%◌, ◌^◌, ◌≤◌, ◌<◌}
 use native.Mathlib.Omega.{arith}
@@ -12,7 +13,7 @@ use lib.IntN.{ℤ}
 use lib.ListN.{length, take, drop, get_or, replicate, length-append, length-replicate, length-drop, length-take, take-append-drop}
 use lib.Seq.{length-take-le, take_at, drop_at, get_or_at, drop-cons, drop-drop, get_or-take, get_or-drop, drop-length}
 use borrow.Author.Tests.{ltb-true, ltb-false, lt-ltb, eqb-true, eqb-false}
-use Rattle.fdoca.specs.Basics.{if◌then◌else◌, lookup, in_base}
+use Rattle.fdoca.specs.Basics.{lookup, in_base}
 use Rattle.fdoca.specs.Packed.{half_bytes, Sign, plus, minus, signs, with_sign, all_below, read_digits, unused_before, packed_number}
 use Rattle.fdoca.specs.Account.{Digits, no_digit, digit, Signed, plus_a, minus_b, plus_c, minus_d, plus_e, plus_f, Unused, before_odd, before_even, in_pairs, Packed}
 use Rattle.fdoca.specs.Reasons as R

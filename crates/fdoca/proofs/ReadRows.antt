@@ -1,6 +1,7 @@
 -- A read of one item refuses for the first reason in order, and accepts where there is none: first the reasons of the state, then 18, which goes by the
 -- item's field, then a number that goes by the bytes of a value, which a null has not.
 -- Assumes nothing.
+use Rattle.std.specs.Prelude.{if◌then◌else◌}
 use mathlib.Core.Path.{◌≡◌, refl, sym, ap, ◌∙◌}
 use mathlib.Core.Logic.{◌⊎◌, inl, inr}
 use Prim.Native.Nat.{ℕ, ◌+◌}
@@ -10,7 +11,7 @@ use mathlib.Core.List.{List, [], ◌∷◌}
 use mathlib.Core.Option.{Option, none, some}
 use lib.ListN.{length, take, drop, get_elem?}
 use lib.Seq.{drop-drop, drop_at}
-use Rattle.fdoca.specs.Basics.{if◌then◌else◌, Result, ok, ◌>>=◌, the}
+use Rattle.fdoca.specs.Basics.{Result, ok, ◌>>=◌, the}
 use Rattle.fdoca.specs.Item.{Field}
 use Rattle.fdoca.specs.Walk.{Note}
 use Rattle.fdoca.specs.Account.{Parts, Begins}

@@ -1,5 +1,6 @@
 -- The entries of a list and its end; and what is looked up in a table.
 -- Assumes nothing.
+use Rattle.std.specs.Prelude.{if◌then◌else◌}
 use mathlib.Core.Path.{◌≡◌, refl}
 use Prim.Native.Nat.{ℕ, zero, suc, ◌<◌, ◌≤◌}
 use native.Mathlib.Omega.{arith}
@@ -9,7 +10,7 @@ use mathlib.Core.Option.{none, some}
 use lib.Dec.{eqb}
 use lib.ListN.{length, get_elem?}
 use borrow.Author.Tests.{eqb-true, eqb-false, ne_eqb}
-use Rattle.fdoca.specs.Basics.{if◌then◌else◌, lookup}
+use Rattle.fdoca.specs.Basics.{lookup}
 use Rattle.fdoca.proofs.Tests.{and_left, and_right}
 
 -- nothing stands past a list's end

@@ -1,5 +1,6 @@
 -- The three parts of an item: they are those of the standard's account, and in order they are the block's bytes, each once.
 -- Assumes nothing.
+use Rattle.std.specs.Prelude.{if◌then◌else◌}
 use mathlib.Core.Path.{◌≡◌, refl, sym, ap, ◌∙◌}
 use Prim.Native.Nat.{ℕ, zero, suc, ◌+◌, ◌*◌, ◌≤◌, ◌<◌}
 use native.Mathlib.Omega.{arith}
@@ -10,7 +11,7 @@ use lib.Dec.{ltb}
 use lib.ListN.{length, take, drop, get_or, get_elem?}
 use lib.Seq.{drop-drop, get_or-drop}
 use borrow.Author.Tests.{lt-ltb, le-ltb}
-use Rattle.fdoca.specs.Basics.{if◌then◌else◌, ok, the}
+use Rattle.fdoca.specs.Basics.{ok, the}
 use Rattle.fdoca.specs.FieldType.{FieldType, terminated_bytes, rule_of, Size}
 use Rattle.fdoca.specs.Item.{Field}
 use Rattle.fdoca.specs.Account as account

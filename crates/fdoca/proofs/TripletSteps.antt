@@ -1,6 +1,7 @@
 -- The check of a triplet, after triplets that have no reason: it is refused for its first reason in document 01's order, or has none, and then what is
 -- kept agrees with the descriptor's bytes again.
 -- Assumes nothing.
+use Rattle.std.specs.Prelude.{if◌then◌else◌}
 use mathlib.Core.Path.{◌≡◌, refl, sym, ap, ◌∙◌}
 use mathlib.Core.Logic.{◌≢◌, ◌⊎◌, inl, inr}
 use Prim.Native.Nat.{ℕ, zero, suc, ◌+◌, ◌*◌, ◌≤◌, ◌<◌}
@@ -12,7 +13,7 @@ use mathlib.Core.Option.{Option, none, some}
 use lib.ListN.{length}
 use lib.Dec.{ltb, eqb}
 use borrow.Author.Tests.{ltb-true, ltb-false, eqb-true, eqb-false, not-true, not-false}
-use Rattle.fdoca.specs.Basics.{if◌then◌else◌, lookup, is_some, product, Result, ok, ◌>>=◌}
+use Rattle.fdoca.specs.Basics.{lookup, is_some, product, Result, ok, ◌>>=◌}
 use Rattle.fdoca.specs.Triplet.{Construct, constructs, Kind, rlo, gda, construct_of, id_of, code_of, extents_of, groups_of}
 use Rattle.fdoca.specs.Triplet as T
 use Rattle.fdoca.specs.Check as C

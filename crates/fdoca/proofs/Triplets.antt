@@ -1,5 +1,6 @@
 -- The triplets of a descriptor as a loop over places meets them.
 -- Assumes nothing.
+use Rattle.std.specs.Prelude.{if◌then◌else◌}
 use mathlib.Core.Path.{◌≡◌, refl, sym, ap, ◌∙◌}
 use Prim.Native.Nat.{ℕ, zero, suc, ◌+◌, ◌-◌, ◌≤◌, ◌<◌}
 use native.Mathlib.Omega.{arith}
@@ -9,7 +10,7 @@ use lib.Dec.{ltb, eqb}
 use lib.ListN.{length, take, drop, get_or, length-drop}
 use lib.Seq.{drop-cons, drop-drop}
 use borrow.Author.Tests.{lt-ltb, le-ltb, eq-eqb, ne_eqb}
-use Rattle.fdoca.specs.Basics.{if◌then◌else◌, is_empty}
+use Rattle.fdoca.specs.Basics.{is_empty}
 use Rattle.fdoca.specs.Triplet.{Triplet, torn, triplet, triplets_from}
 use Rattle.fdoca.specs.Between.{triplets_at}
 use Rattle.fdoca.proofs.Tests.{by_order}

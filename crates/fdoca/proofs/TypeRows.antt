@@ -1,6 +1,7 @@
 -- What the table of rules allows is what document 01's table of field types allows: type code, bias indicator, mode and size. The size that holds
 -- is the one that Q-2 says.
 -- Assumes nothing.
+use Rattle.std.specs.Prelude.{if◌then◌else◌}
 use mathlib.Core.Path.{◌≡◌, refl, sym, ap, ◌∙◌}
 use Prim.Native.Nat.{ℕ, ◌+◌, ◌-◌, ◌≤◌, ◌<◌}
 use native.Mathlib.Omega.{arith}
@@ -11,7 +12,7 @@ use mathlib.Core.Option.{Option, none, some, none-ne-some, some-injective}
 use lib.Dec.{leb, ltb, eqb}
 use lib.ListN.{get_or}
 use borrow.Author.Tests.{ltb-true, leb-true, le-leb, lt-leb, eqb-true, eq-eqb}
-use Rattle.fdoca.specs.Basics.{if◌then◌else◌, elem, lookup}
+use Rattle.fdoca.specs.Basics.{elem, lookup}
 use Rattle.fdoca.specs.FieldType.{FieldType, fixed_bytes, variable_bytes, terminated_bytes, short_bytes, integer, reversed_integer, packed_decimal, hex_float, reversed_float, binary_float, types, plain, type_of, Size, bytes, digits, one_of, size_of, Rule, allows, rule_of, length_that_holds, size_that_holds}
 use Rattle.fdoca.specs.Triplet.{bias_of, mode_of, size_in}
 use Rattle.fdoca.specs.Check.{most, suits_type, good_parameters, good_type}

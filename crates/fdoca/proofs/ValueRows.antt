@@ -1,5 +1,6 @@
 -- The value call refuses for the first reason in order, 18 and then 23, and accepts where there is none.
 -- Assumes nothing.
+use Rattle.std.specs.Prelude.{if◌then◌else◌}
 use mathlib.Core.Path.{◌≡◌, refl, sym}
 use mathlib.Core.Logic.{◌⊎◌, inl, inr}
 use Prim.Native.Nat.{ℕ, ◌+◌, ◌/◌, ◌≤◌, ◌<◌}
@@ -13,7 +14,7 @@ use lib.Ieee.{Float}
 use borrow.Author.Tests.{eqb-true, ltb-true}
 use Rattle.fdoca.specs.declared.Value.{Value}
 use Rattle.fdoca.specs.declared.Value.TheVariants.{Null}
-use Rattle.fdoca.specs.Basics.{if◌then◌else◌, lookup, big}
+use Rattle.fdoca.specs.Basics.{lookup, big}
 use Rattle.fdoca.specs.FieldType.{FieldType, fixed_bytes, variable_bytes, terminated_bytes, short_bytes, integer, reversed_integer, packed_decimal, hex_float, reversed_float, binary_float, plain, fixed, Size, bytes, digits, in_bytes, one_of, allows, rule_of}
 use Rattle.fdoca.specs.Item.{Field, field_length}
 use Rattle.fdoca.specs.Packed.{all_below}

@@ -1,12 +1,6 @@
 -- Case distinctions, byte numbers and refusals, which the other definitions share.
-use Rattle.std.specs.Prelude.{ℕ, zero, suc, ◌+◌, ◌*◌, ◌^◌, Bool, true, false, List, [], ◌∷◌, ◌++◌, length, eqb}
+use Rattle.std.specs.Prelude.{ℕ, zero, suc, ◌+◌, ◌*◌, ◌^◌, Bool, true, false, List, [], ◌∷◌, ◌++◌, length, eqb, if◌then◌else◌}
 use Rattle.std.proofs.Math.Option.{Option, none, some}
-
-infix 5 if◌then◌else◌
-module _ {ℓ} {A : Type ℓ} where
-  abbrev pub if◌then◌else◌ : Bool → A → A → A
-  if◌then◌else◌ true a b = a
-  if◌then◌else◌ false a b = b
 
 -- Whether a number is among others.
 abbrev pub elem : ℕ → List ℕ → Bool

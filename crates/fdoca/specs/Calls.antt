@@ -1,6 +1,6 @@
 -- What the calls give (document 01, "What the reader carries", "Numbers a caller can meet", "The item list and the dump program"; document 02, Q-1, Q-5,
 -- Q-6 and Q-7).
-use Rattle.std.specs.Prelude.{ℕ, ◌+◌, ◌*◌, ◌^◌, Bool, true, false, ◌&&◌, ◌||◌, not, List, [], ◌∷◌, ◌++◌, map, reverse, ltb, eqb, Float, ℤ, pos, ◌-ℤ◌, length, take, drop}
+use Rattle.std.specs.Prelude.{ℕ, ◌+◌, ◌*◌, ◌^◌, Bool, true, false, ◌&&◌, ◌||◌, not, List, [], ◌∷◌, ◌++◌, map, reverse, ltb, eqb, Float, ℤ, pos, ◌-ℤ◌, length, take, drop, if◌then◌else◌}
 use Rattle.std.proofs.Math.Option.{Option, none, some}
 use Rattle.std.proofs.Math.ListN.{get_elem?}
 use Rattle.fdoca.specs.declared.Checked.{Checked}
@@ -11,7 +11,7 @@ use Rattle.fdoca.specs.declared.Decimal.{Decimal}
 use Rattle.fdoca.specs.declared.Value.{Value}
 use Rattle.fdoca.specs.declared.Value.TheVariants.{Null, Whole, Real}
 use Rattle.fdoca.specs.declared.Valued.{Valued}
-use Rattle.fdoca.specs.Basics.{if◌then◌else◌, lookup, is_some, big, Result, refuse, ok, ◌>>=◌, ◌>>◌, reject, the}
+use Rattle.fdoca.specs.Basics.{lookup, is_some, big, Result, refuse, ok, ◌>>=◌, ◌>>◌, reject, the}
 use Rattle.fdoca.specs.FieldType.{FieldType, fixed_bytes, variable_bytes, terminated_bytes, short_bytes, integer, reversed_integer, packed_decimal, hex_float, reversed_float, binary_float, Size, bytes, digits}
 use Rattle.fdoca.specs.Walk.{Note, walk_by}
 use Rattle.fdoca.specs.Check.{check, max_descriptor}

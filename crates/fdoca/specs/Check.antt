@@ -1,7 +1,7 @@
 -- The check of a descriptor (document 01, "Numbers a caller can meet"; document 02, Q-4 and Q-5): the first reason to refuse it, or its item count.
-use Rattle.std.specs.Prelude.{ℕ, zero, suc, ◌+◌, ◌*◌, ◌%◌, Bool, true, false, ◌&&◌, not, List, [], ◌∷◌, leb, ltb, eqb, length, get_or}
+use Rattle.std.specs.Prelude.{ℕ, zero, suc, ◌+◌, ◌*◌, ◌%◌, Bool, true, false, ◌&&◌, not, List, [], ◌∷◌, leb, ltb, eqb, length, get_or, if◌then◌else◌}
 use Rattle.std.proofs.Math.Option.{Option, none, some}
-use Rattle.fdoca.specs.Basics.{if◌then◌else◌, elem, lookup, is_some, is_empty, product, Result, refuse, ok, ◌>>=◌, ◌>>◌, reject, the}
+use Rattle.fdoca.specs.Basics.{elem, lookup, is_some, is_empty, product, Result, refuse, ok, ◌>>=◌, ◌>>◌, reject, the}
 use Rattle.fdoca.specs.FieldType.{FieldType, Rule, allows, replaces, suits, type_of, rule_of}
 use Rattle.fdoca.specs.Triplet.{Triplet, torn, triplet, triplets, last_place, Kind, rlo, gda, Construct, sda, isd, cpt, grouped, construct_of, id_of, code_of, parameters_of, mode_of, size_in, bias_of, extents_of, Group, taken, factor, groups_of, subset_of, version_of}
 use Rattle.fdoca.specs.Item.{Field}

@@ -1,8 +1,8 @@
 -- What the dump program prints (document 01, "The item list and the dump program"), as the bytes of its text.
-use Rattle.std.specs.Prelude.{ℕ, zero, suc, ◌+◌, ◌/◌, ◌%◌, ◌||◌, not, List, [], ◌∷◌, ◌++◌, ltb, eqb, length, take, drop}
+use Rattle.std.specs.Prelude.{ℕ, zero, suc, ◌+◌, ◌/◌, ◌%◌, ◌||◌, not, List, [], ◌∷◌, ◌++◌, ltb, eqb, length, take, drop, if◌then◌else◌}
 use Prim.Native.Char.{code}
 use Prim.Native.String.{String}
-use Rattle.fdoca.specs.Basics.{if◌then◌else◌, big, Result, refuse, ok, ◌>>=◌, ◌>>◌, reject}
+use Rattle.fdoca.specs.Basics.{big, Result, refuse, ok, ◌>>=◌, ◌>>◌, reject}
 use Rattle.fdoca.specs.Walk.{Note, walk_by}
 use Rattle.fdoca.specs.Check.{check, max_descriptor}
 use Rattle.fdoca.specs.Unfolding.{unfolded, repeated}

@@ -1,7 +1,7 @@
 -- The field types (document 01, "Field types"; document 02, Q-1, Q-2 and Q-4; 000, section 4.3.3) and the rule of each.
-use Rattle.std.specs.Prelude.{ℕ, ◌+◌, ◌-◌, ◌*◌, ◌/◌, Bool, true, false, ◌&&◌, List, [], ◌∷◌, leb, ltb}
+use Rattle.std.specs.Prelude.{ℕ, ◌+◌, ◌-◌, ◌*◌, ◌/◌, Bool, true, false, ◌&&◌, List, [], ◌∷◌, leb, ltb, if◌then◌else◌}
 use Rattle.std.proofs.Math.Option.{Option, none, some}
-use Rattle.fdoca.specs.Basics.{if◌then◌else◌, elem, lookup}
+use Rattle.fdoca.specs.Basics.{elem, lookup}
 
 -- The types that are carried.
 pub data FieldType : Type 0 where

@@ -1,10 +1,9 @@
 -- Numbers with fractions (document 02, Q-7; 000, section 4.3.3, the floating point types; IEEE 754): what the bits of a float stand for, and the 64-bit
 -- float of exactly equal value.
-use Rattle.std.specs.Prelude.{◌≡◌, ℕ, suc, ◌+◌, ◌*◌, ◌/◌, ◌%◌, ◌^◌, Bool, leb, ltb, eqb, ℤ, pos, negsuc, Float}
+use Rattle.std.specs.Prelude.{◌≡◌, ℕ, suc, ◌+◌, ◌*◌, ◌/◌, ◌%◌, ◌^◌, Bool, leb, ltb, eqb, ℤ, pos, negsuc, Float, if◌then◌else◌}
 use Rattle.std.proofs.Math.Option.{Option, none, some}
 use Rattle.std.specs.Float.{nan, inf, fin, binary64}
 use Rattle.std.specs.Float.Ieee.{up, down, minus, fits, odd, size}
-use Rattle.fdoca.specs.Basics.{if◌then◌else◌}
 
 -- A significand m times 2 to the exponent e, below zero where `negative`. A zero has a sign too.
 pub record Number : Type 0 where

@@ -1,9 +1,9 @@
 -- Blocks as document 01 had them before document 02's Q-8, with the low bits of null indicators not looked at: what Q-8's sentence on the accepted blocks
 -- compares with. No call goes by it.
-use Rattle.std.specs.Prelude.{ℕ, ◌+◌, ◌≤◌, ◌≡◌, true, List, [], ◌∷◌, leb, ltb, length, drop}
+use Rattle.std.specs.Prelude.{ℕ, ◌+◌, ◌≤◌, ◌≡◌, true, List, [], ◌∷◌, leb, ltb, length, drop, if◌then◌else◌}
 use Rattle.std.proofs.Math.Option.{some}
 use Rattle.std.proofs.Math.ListN.{get_elem?}
-use Rattle.fdoca.specs.Basics.{if◌then◌else◌, Result, ok, ◌>>=◌, ◌>>◌, reject}
+use Rattle.fdoca.specs.Basics.{Result, ok, ◌>>=◌, ◌>>◌, reject}
 use Rattle.fdoca.specs.FieldType.{Layout, rule_of, nullable}
 use Rattle.fdoca.specs.Item.{Field, field_length, Measured, refused, item, measure_value, indicated}
 use Rattle.fdoca.specs.Walk.{Note, item_length, note_of}

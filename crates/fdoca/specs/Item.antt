@@ -1,6 +1,6 @@
 -- One item of a data block: how it is measured (document 01, "Field types", and the order within an item; document 02, Q-8).
-use Rattle.std.specs.Prelude.{ℕ, suc, ◌+◌, ◌-◌, min, Bool, true, false, List, [], ◌∷◌, leb, ltb, eqb, length, take}
-use Rattle.fdoca.specs.Basics.{if◌then◌else◌, big}
+use Rattle.std.specs.Prelude.{ℕ, suc, ◌+◌, ◌-◌, min, Bool, true, false, List, [], ◌∷◌, leb, ltb, eqb, length, take, if◌then◌else◌}
+use Rattle.fdoca.specs.Basics.{big}
 use Rattle.fdoca.specs.FieldType.{FieldType, LengthField, signed_two, unsigned_one, Layout, fixed, counted, terminated, Size, in_bytes, rule_of, nullable}
 
 -- A field ("Unfolding and walk"): an SDA's id, its type code with the type that it stands for, and the parameters that hold for it: mode, bias

@@ -1,7 +1,7 @@
 -- Packed decimals (document 02, Q-1; 000, "Decimal Fixed Point"): the whole number that the bytes of a value stand for.
-use Rattle.std.specs.Prelude.{ℕ, ◌+◌, ◌/◌, ◌%◌, Bool, true, ◌&&◌, List, [], ◌∷◌, ltb, ℤ, pos, ◌-ℤ◌, take, drop, get_or}
+use Rattle.std.specs.Prelude.{ℕ, ◌+◌, ◌/◌, ◌%◌, Bool, true, ◌&&◌, List, [], ◌∷◌, ltb, ℤ, pos, ◌-ℤ◌, take, drop, get_or, if◌then◌else◌}
 use Rattle.std.proofs.Math.Option.{Option, none, some}
-use Rattle.fdoca.specs.Basics.{if◌then◌else◌, lookup, in_base}
+use Rattle.fdoca.specs.Basics.{lookup, in_base}
 
 -- The half-bytes of a run of bytes, the left one of each byte first.
 unfoldable pub half_bytes : List ℕ → List ℕ

@@ -1,7 +1,7 @@
 -- A descriptor's triplets and their parts (document 01, "Triplets"; document 02, Q-4; 000, section 4.3).
-use Rattle.std.specs.Prelude.{ℕ, zero, suc, ◌+◌, ◌||◌, List, [], ◌∷◌, ltb, length, take, drop, get_or}
+use Rattle.std.specs.Prelude.{ℕ, zero, suc, ◌+◌, ◌||◌, List, [], ◌∷◌, ltb, length, take, drop, get_or, if◌then◌else◌}
 use Rattle.std.proofs.Math.Option.{Option}
-use Rattle.fdoca.specs.Basics.{if◌then◌else◌, big, lookup}
+use Rattle.fdoca.specs.Basics.{big, lookup}
 use Rattle.fdoca.specs.FieldType.{Size, size_of, Rule, size_that_holds}
 
 -- A triplet's place in the descriptor and its LENGTH bytes; or the place of a torn one, with LENGTH below 2 or past the end.

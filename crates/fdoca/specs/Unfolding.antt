@@ -1,9 +1,9 @@
 -- The unfolding of an accepted descriptor (document 01, "Unfolding and walk"; document 02, Q-4 and Q-5): the list of its fields, made from its bytes,
 -- and the repeated layout of rows to the end.
 -- The cases marked * occur in no accepted descriptor: theorem `no-star` of proofs/Stars.
-use Rattle.std.specs.Prelude.{ℕ, zero, suc, ◌-◌, ◌*◌, Bool, true, ◌&&◌, List, [], ◌∷◌, ◌++◌, eqb, length, replicate, get_or}
+use Rattle.std.specs.Prelude.{ℕ, zero, suc, ◌-◌, ◌*◌, Bool, true, ◌&&◌, List, [], ◌∷◌, ◌++◌, eqb, length, replicate, get_or, if◌then◌else◌}
 use Rattle.std.proofs.Math.Option.{Option, none, some}
-use Rattle.fdoca.specs.Basics.{if◌then◌else◌, lookup, product, repeat}
+use Rattle.fdoca.specs.Basics.{lookup, product, repeat}
 use Rattle.fdoca.specs.FieldType.{FieldType, type_of, rule_of, size_replaced}
 use Rattle.fdoca.specs.Triplet.{Triplet, torn, triplet, triplets, Kind, rlo, gda, Construct, sda, isd, cpt, grouped, construct_of, id_of, code_of, parameters_of, mode_of, bias_of, size_in, extents_of, Group, taken, factor, groups_of}
 use Rattle.fdoca.specs.Item.{Field, with_size, field_length}

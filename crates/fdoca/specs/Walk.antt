@@ -1,7 +1,7 @@
 -- The walk (document 01, "Unfolding and walk"; document 02, Q-5): the items of a list of fields, one after the other, in the data.
-use Rattle.std.specs.Prelude.{ℕ, zero, suc, ◌+◌, Bool, true, false, List, [], ◌∷◌, ltb, length, drop}
+use Rattle.std.specs.Prelude.{ℕ, zero, suc, ◌+◌, Bool, true, false, List, [], ◌∷◌, ltb, length, drop, if◌then◌else◌}
 use Rattle.std.proofs.Math.Option.{Option, none, some}
-use Rattle.fdoca.specs.Basics.{if◌then◌else◌, Result, refuse, ok, ◌>>=◌, ◌>>◌, reject}
+use Rattle.fdoca.specs.Basics.{Result, refuse, ok, ◌>>=◌, ◌>>◌, reject}
 use Rattle.fdoca.specs.Item.{Field, Measured, refused, item, measure}
 use Rattle.fdoca.specs.Check.{max_items}
 

@@ -1,5 +1,6 @@
 -- The parameters that a type allows, by the numbers of its rule, the size that holds, and the ways through `shape_of` and `good_length`.
 -- Assumes nothing.
+use Rattle.std.specs.Prelude.{if◌then◌else◌}
 use mathlib.Core.Path.{◌≡◌, refl, sym, ◌∙◌, ap}
 use Prim.Native.Nat.{ℕ, ◌+◌, ◌*◌, ◌/◌, ◌%◌, ◌<◌, ◌≤◌, zero-le}
 use native.Mathlib.Omega.{arith}
@@ -9,7 +10,7 @@ use mathlib.Core.Option.{Option, none, some}
 use lib.Dec.{leb, ltb, eqb, lit≤}
 use lib.ListN.{length, get_or}
 use borrow.Author.Tests.{lt-ltb, le-ltb, le-leb, lt-leb, eq-eqb, ne_eqb}
-use Rattle.fdoca.specs.Basics.{if◌then◌else◌, elem, big}
+use Rattle.fdoca.specs.Basics.{elem, big}
 use Rattle.fdoca.specs.FieldType.{FieldType, fixed_bytes, variable_bytes, terminated_bytes, short_bytes, integer, reversed_integer, packed_decimal, hex_float, reversed_float, binary_float, type_of, Layout, Size, bytes, Sizes, up_to, one_of, digits_up_to, size_of, allows, rule_of, length_that_holds, size_that_holds, suits}
 use Rattle.fdoca.specs.FieldType as definition
 use Rattle.fdoca.specs.Triplet.{bias_of, mode_of, size_in}

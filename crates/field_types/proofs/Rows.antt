@@ -1,5 +1,6 @@
 -- Laws of the table of rules: the nullable forms, the rule that a plain code finds, the layout behind a rule's number, and the type whose size is in digits.
 -- Assumes nothing.
+use Rattle.std.specs.Prelude.{if◌then◌else◌}
 use mathlib.Core.Path.{◌≡◌, refl, sym, ◌∙◌, ap}
 use Prim.Native.Nat.{ℕ, ◌+◌, ◌<◌}
 use native.Mathlib.Omega.{arith}
@@ -7,7 +8,7 @@ use mathlib.Core.Bool.{Bool, true, false, not}
 use mathlib.Core.Option.{Option, none, some, none-ne-some}
 use lib.Dec.{eqb}
 use borrow.Author.Tests.{ne_eqb, not-true}
-use Rattle.fdoca.specs.Basics.{if◌then◌else◌, lookup}
+use Rattle.fdoca.specs.Basics.{lookup}
 use Rattle.fdoca.specs.FieldType.{FieldType, packed_decimal, types, plain, type_of, rule_of, Layout, fixed, counted, terminated, signed_two, unsigned_one}
 use Rattle.fdoca.proofs.Table.{looked_up, Unlisted, not_listed}
 use Rattle.fdoca.proofs.TypeRows.{plain_low, plain_high}

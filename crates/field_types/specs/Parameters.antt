@@ -1,6 +1,5 @@
 -- The test of an SDA's eight type parameter bytes (document 01, "Field types"), its parts, and the shape of an SDA that is good.
-use Rattle.std.specs.Prelude.{ℕ, ◌+◌, ◌*◌, ◌/◌, ◌%◌, Bool, true, false, ◌&&◌, List, leb, ltb, eqb, length, get_or}
-use Rattle.fdoca.specs.Basics.{if◌then◌else◌}
+use Rattle.std.specs.Prelude.{ℕ, ◌+◌, ◌*◌, ◌/◌, ◌%◌, Bool, true, false, ◌&&◌, List, leb, ltb, eqb, length, get_or, if◌then◌else◌}
 use Rattle.fdoca.specs.FieldType.{type_of, Size, bytes, digits}
 use Rattle.fdoca.specs.Triplet.{size_in}
 use Rattle.fdoca.specs.Check.{good_type}

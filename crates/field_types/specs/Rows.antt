@@ -1,7 +1,7 @@
 -- The table of rules (document 01, "Field types"): the rule of a field type in numbers, and the one that a plain type code finds (document 02, Q-3).
-use Rattle.std.specs.Prelude.{ℕ, ◌+◌, false, List, [], eqb, get_or}
+use Rattle.std.specs.Prelude.{ℕ, ◌+◌, false, List, [], eqb, get_or, if◌then◌else◌}
 use Rattle.std.proofs.Math.Option.{Option, none, some}
-use Rattle.fdoca.specs.Basics.{if◌then◌else◌, lookup}
+use Rattle.fdoca.specs.Basics.{lookup}
 use Rattle.fdoca.specs.FieldType.{FieldType, types, Layout, fixed, counted, terminated, signed_two, unsigned_one, Sizes, up_to, one_of, digits_up_to, rule, rule_of}
 use Rattle.fdoca.specs.FieldType as definition
 use Rattle.fdoca.specs.Check.{most}

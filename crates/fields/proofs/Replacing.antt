@@ -1,5 +1,6 @@
 -- The entry of a field whose length a group triplet gives.
 -- Assumes nothing.
+use Rattle.std.specs.Prelude.{if◌then◌else◌}
 use mathlib.Core.Path.{◌≡◌, refl, sym, ◌∙◌}
 use Prim.Native.Nat.{ℕ, ◌+◌, ◌*◌, ◌/◌, ◌%◌, ◌<◌}
 use native.Mathlib.Omega.{arith}
@@ -7,7 +8,6 @@ use mathlib.Core.Bool.{Bool, true, false}
 use mathlib.Core.Option.{some}
 use borrow.Author.Tests.{lt-ltb, le-ltb, eqb-true, eqb-false}
 use lib.Dec.{eqb}
-use Rattle.fdoca.specs.Basics.{if◌then◌else◌}
 use Rattle.fdoca.specs.FieldType.{type_of, Size, Sizes, up_to, one_of, digits_up_to, size_of, replaces, rule_of}
 use Rattle.fdoca.specs.Item.{Field, with_size}
 use Rattle.fdoca.specs.Check.{suits_type, good_column}

@@ -1,6 +1,5 @@
 -- A plan's entry, by the numbers that its field is given in.
-use Rattle.std.specs.Prelude.{ℕ, ◌+◌, ◌*◌, ◌/◌, ◌%◌, eqb}
-use Rattle.fdoca.specs.Basics.{if◌then◌else◌}
+use Rattle.std.specs.Prelude.{ℕ, ◌+◌, ◌*◌, ◌/◌, ◌%◌, eqb, if◌then◌else◌}
 
 -- The parts of a plan's entry that a size makes, given as one number, by the layout's number: its length in bytes, and the layout's number
 -- with the digits' part.

@@ -1,5 +1,6 @@
 -- The ways through the other functions.
 -- Assumes nothing.
+use Rattle.std.specs.Prelude.{if◌then◌else◌}
 use mathlib.Core.Path.{◌≡◌, refl, sym, ap, ◌∙◌, subst}
 use Prim.Native.Nat.{ℕ, zero, suc, ◌+◌, ◌-◌, ◌*◌, ◌/◌, ◌%◌, ◌^◌, ◌<◌, ◌≤◌}
 use native.Mathlib.Nat.{zero-mul, mul_assoc, mul-le-mul_left}
@@ -11,7 +12,6 @@ use lib.Ieee.{Float, binary64, minus, of_bits, of_fields, nan_bits}
 use lib.Ieee.Exact.{HasValue}
 use borrow.Author.Tests.{le-leb, lt-leb, eq-eqb, ne_eqb, eqb-false}
 use lib.Pow.{pow-add, pow_pos}
-use Rattle.fdoca.specs.Basics.{if◌then◌else◌}
 use Rattle.fdoca.specs.Float.{Equal, equal_float, short_hexadecimal, long_hexadecimal, short_binary, long_binary, is_negative, characteristic, fraction, number_of, float_of}
 use Rattle.fdoca.proofs.Tests.{at_least}
 use Rattle.fdoca.proofs.Floats.{doubled, is_equal_float, number, worth_over, over_none}

@@ -1,10 +1,9 @@
 -- A number and the 64-bit float that equals it, in units of the least float, 2 to the -1074.
-use Rattle.std.specs.Prelude.{◌≡◌, ℕ, ◌+◌, ◌-◌, ◌*◌, ◌%◌, ◌^◌, ◌≤◌, Bool, true, false, T, eqb, pos, Float}
+use Rattle.std.specs.Prelude.{◌≡◌, ℕ, ◌+◌, ◌-◌, ◌*◌, ◌%◌, ◌^◌, ◌≤◌, Bool, true, false, T, eqb, pos, Float, if◌then◌else◌}
 use Rattle.std.proofs.Math.Option.{Option, some, none}
 use Rattle.std.specs.Float.{fin, binary64}
 use Rattle.std.specs.Float.Ieee.{fits}
 use Rattle.std.specs.Float.Ieee.Exact.{HasValue}
-use Rattle.fdoca.specs.Basics.{if◌then◌else◌}
 use Rattle.fdoca.specs.Reasons.{Over53}
 use Rattle.floats.specs.declared.Real.{Real}
 

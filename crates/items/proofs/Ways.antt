@@ -1,6 +1,7 @@
 -- The ways through an item's measuring: each says which case of a definition an answer is, by what the code knows there. A function's
 -- ways are a ruleset, for `search`.
 -- Assumes nothing.
+use Rattle.std.specs.Prelude.{if◌then◌else◌}
 use Prim.Native.Nat.{ℕ, ◌+◌, ◌-◌, ◌*◌, ◌^◌, ◌<◌, ◌≤◌}
 use mathlib.Core.Path.{◌≡◌, refl, sym, ap, ◌∙◌}
 use mathlib.Core.Bool.{Bool, true, false, true≢false}
@@ -11,7 +12,7 @@ use lib.Dec.{leb, eqb, lit≤}
 use lib.ListN.{length, get_or, take, drop, length-take, length-drop}
 use borrow.Author.Rules.{part_to_end}
 use borrow.Author.Tests.{lt-ltb, le-ltb, le-leb, lt-leb, eq-eqb, ne_eqb, not-true, not-false}
-use Rattle.fdoca.specs.Basics.{if◌then◌else◌, big, in_base}
+use Rattle.fdoca.specs.Basics.{big, in_base}
 use Rattle.fdoca.specs.FieldType.{LengthField, signed_two, unsigned_one, Layout}
 use Rattle.fdoca.specs.Item.{refused, item, Space, unbounded, limited, reserved, space, width, is_over, unused, measure_body, measure_counted, measure_value, indicated, measure_nullable, measure_item}
 use Rattle.fdoca.specs.Item as defined

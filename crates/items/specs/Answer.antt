@@ -1,6 +1,5 @@
 -- Steps of the papers' definitions of an item's measuring.
-use Rattle.std.specs.Prelude.{ℕ, ◌+◌, ◌-◌, Bool, true, false, List, [], ◌∷◌, leb, eqb}
-use Rattle.fdoca.specs.Basics.{if◌then◌else◌}
+use Rattle.std.specs.Prelude.{ℕ, ◌+◌, ◌-◌, Bool, true, false, List, [], ◌∷◌, leb, eqb, if◌then◌else◌}
 use Rattle.fdoca.specs.Item.{refused, item, Space, is_over, measure_body}
 use Rattle.fdoca.specs.Item as defined
 use Rattle.terminated.specs.declared.Measured.{Measured}

@@ -1,5 +1,6 @@
 -- The text of a file: its sizes, the ways through `write_dump`, and a file that is longer than any good one.
 -- Assumes nothing.
+use Rattle.std.specs.Prelude.{if◌then◌else◌}
 use mathlib.Core.Path.{◌≡◌, refl, sym, ap, ◌∙◌}
 use Prim.Native.Nat.{ℕ, ◌+◌, ◌-◌, ◌*◌, ◌<◌, ◌≤◌}
 use native.Mathlib.Omega.{arith}
@@ -10,7 +11,7 @@ use lib.ListN.{length, get_or, take, drop, length-append, length-drop}
 use lib.Seq.{sets, length-take-le, take-append-le, drop-append-le}
 use borrow.Author.Rules.{part_to_end}
 use borrow.Author.Tests.{lt-ltb, le-ltb, eq-eqb, ne_eqb, ltb-false}
-use Rattle.fdoca.specs.Basics.{if◌then◌else◌, big, in_base}
+use Rattle.fdoca.specs.Basics.{big, in_base}
 use Rattle.fdoca.specs.Dump.{refused_line, first_size, second_size, text_of, block_notes, dump}
 use Rattle.listing.specs.Put.{Put, Told}
 

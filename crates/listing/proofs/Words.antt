@@ -1,5 +1,6 @@
 -- The lines, put word by word.
 -- Assumes nothing.
+use Rattle.std.specs.Prelude.{if◌then◌else◌}
 use mathlib.Core.Path.{◌≡◌}
 use Prim.Native.Nat.{ℕ, ◌<◌, ◌≤◌}
 use native.Mathlib.Omega.{arith}
@@ -7,7 +8,6 @@ use mathlib.Core.Bool.{Bool, true, false}
 use mathlib.Core.List.{List, [], ◌∷◌, ◌++◌}
 use lib.ListN.{length, length-append}
 use lib.Seq.{append_snoc}
-use Rattle.fdoca.specs.Basics.{if◌then◌else◌}
 use Rattle.fdoca.specs.Dump.{decimal, items_word, bytes_word, null_word, refused_word, refused_line}
 use Rattle.terminated.specs.declared.Measured.{Measured}
 use Rattle.listing.specs.Put.{Put}

@@ -2,9 +2,9 @@
 
 #![tactic(auto)]
 
-ghost use Rattle.std.specs.Prelude.{◌≡◌, ◌+◌, ◌≤◌, ◌<◌, [], ◌∷◌, ◌++◌, length};
+ghost use Rattle.std.specs.Prelude.{◌≡◌, ◌+◌, ◌≤◌, ◌<◌, [], ◌∷◌, ◌++◌, length, if◌then◌else◌};
 ghost use Rattle.std.proofs.lemmas.List.Edits.{sets};
-ghost use Rattle.fdoca.specs.Basics.{if◌then◌else◌, big};
+ghost use Rattle.fdoca.specs.Basics.{big};
 ghost use Rattle.fdoca.specs.Walk.{walk_by};
 ghost use Rattle.fdoca.specs.Unfolding.{unfolded, repeated};
 ghost use Rattle.fdoca.specs.Dump.{decimal, null_word, refused_line, block_notes, dump};

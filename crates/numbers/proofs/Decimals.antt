@@ -1,5 +1,6 @@
 -- A packed decimal: its half-bytes, its digits by Horner's rule, its sign, and the ways through `packed`.
 -- Assumes nothing.
+use Rattle.std.specs.Prelude.{if◌then◌else◌}
 use mathlib.Core.Path.{◌≡◌, refl, sym, ap, ◌∙◌}
 use Prim.Native.Nat.{ℕ, zero, suc, ◌+◌, ◌*◌, ◌/◌, ◌%◌, ◌<◌, ◌≤◌, ◌^◌}
 use native.Mathlib.Nat.{pow-le-pow_right}
@@ -17,7 +18,7 @@ use mir.Syntax.{w64}
 use mir.Val.{Fits, SFits, to_z, of_z}
 use mir.ValLaws.{to_z-of_z}
 use borrow.Author.Tests.{lt-ltb, le-ltb, ne_eqb}
-use Rattle.fdoca.specs.Basics.{if◌then◌else◌, lookup, in_base}
+use Rattle.fdoca.specs.Basics.{lookup, in_base}
 use Rattle.fdoca.specs.Packed.{half_bytes, Sign, plus, minus, signs, all_below, read_digits, unused_before, packed_number}
 use Rattle.fdoca.proofs.Table.{end, ◌&◌, found_as}
 use Rattle.fdoca.proofs.Packed.{length_halves, halves_at, below_append, below_at, no_sign, sign_high}

@@ -1,7 +1,7 @@
 -- Steps of the definitions of a packed decimal's number: document 02, Q-1.
-use Rattle.std.specs.Prelude.{ℕ, true, false, List, ℤ, pos}
+use Rattle.std.specs.Prelude.{ℕ, true, false, List, ℤ, pos, if◌then◌else◌}
 use Rattle.std.proofs.Math.Option.{Option, none, some}
-use Rattle.fdoca.specs.Basics.{if◌then◌else◌, in_base}
+use Rattle.fdoca.specs.Basics.{in_base}
 use Rattle.fdoca.specs.Packed.{Sign, with_sign, all_below}
 use Rattle.numbers.specs.declared.Unpacked.{Unpacked}
 

@@ -1,6 +1,5 @@
 -- Whole numbers of up to eight bytes: document 01, "Field types", X'23' and X'24'.
-use Rattle.std.specs.Prelude.{ℕ, ◌*◌, Bool, List, leb, ltb, ℤ, pos, ◌-ℤ◌, length}
-use Rattle.fdoca.specs.Basics.{if◌then◌else◌}
+use Rattle.std.specs.Prelude.{ℕ, ◌*◌, Bool, List, leb, ltb, ℤ, pos, ◌-ℤ◌, length, if◌then◌else◌}
 use Rattle.fdoca.specs.Calls.{ordered, signed}
 
 -- Two's complement in a width of 2 h numbers: from h on, n stands for itself less 2 h.

@@ -1,10 +1,10 @@
 -- What a C caller is given: the number returned, and what is written through each lent number and into the list, also on a refusal. All of
 -- it is the answer to what the call's definition gives.
-use Rattle.std.specs.Prelude.{ℕ, ◌+◌, ◌≤◌, Bool, false, ◌≡◌, List, ℤ, pos, Float, length}
+use Rattle.std.specs.Prelude.{ℕ, ◌+◌, ◌≤◌, Bool, false, ◌≡◌, List, ℤ, pos, Float, length, if◌then◌else◌}
 use Rattle.std.specs.Float.{fin}
 use Rattle.fdoca.specs.declared.Value.{Value}
 use Rattle.fdoca.specs.declared.Value.TheVariants.{Null, Whole, Real}
-use Rattle.fdoca.specs.Basics.{if◌then◌else◌, Result}
+use Rattle.fdoca.specs.Basics.{Result}
 use Rattle.fdoca.specs.Walk.{Note}
 use Rattle.fdoca.specs.Calls.{checked, listed, entries_after, state_of, whole_answer, decimal_answer, value_answer}
 use Rattle.blocks.specs.Lending.{lent_at}

@@ -1,5 +1,6 @@
 -- What `write` leaves is a plan: each number of it stands for a field of the list, and each field is proper.
 -- Assumes nothing.
+use Rattle.std.specs.Prelude.{if◌then◌else◌}
 use mathlib.Core.Path.{◌≡◌}
 use mathlib.Core.Bool.{Bool, true, false}
 use mathlib.Core.List.{List, [], ◌∷◌, ◌++◌, map, map-append}
@@ -9,7 +10,7 @@ use native.Mathlib.Omega.{arith}
 use lib.Dec.{ltb, eqb}
 use lib.ListN.{length, get_or, take, drop, replicate, length-map}
 use lib.Seq.{sets}
-use Rattle.fdoca.specs.Basics.{if◌then◌else◌, lookup, product, repeat}
+use Rattle.fdoca.specs.Basics.{lookup, product, repeat}
 use Rattle.fdoca.specs.Triplet.{Kind, rlo, gda, Group, taken, factor}
 use Rattle.fdoca.specs.Item.{Field}
 use Rattle.fdoca.specs.Unfolding.{Described, array, row, fields_taken, fields_referred, group_fields, add_fields}

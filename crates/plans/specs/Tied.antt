@@ -1,8 +1,8 @@
 -- What the check establishes of an accepted descriptor for writing its plan: tables with a position, a size and an entry for each described id,
 -- tied to the descriptor's bytes by equations, one for each id.
-use Rattle.std.specs.Prelude.{ℕ, suc, ◌+◌, ◌-◌, ◌/◌, ◌%◌, ◌≤◌, ◌<◌, ◌≡◌, Bool, true, false, List, [], ◌∷◌, ltb, eqb, length, get_or, drop}
+use Rattle.std.specs.Prelude.{ℕ, suc, ◌+◌, ◌-◌, ◌/◌, ◌%◌, ◌≤◌, ◌<◌, ◌≡◌, Bool, true, false, List, [], ◌∷◌, ltb, eqb, length, get_or, drop, if◌then◌else◌}
 use Rattle.std.proofs.Math.Option.{some}
-use Rattle.fdoca.specs.Basics.{if◌then◌else◌, product, lookup}
+use Rattle.fdoca.specs.Basics.{product, lookup}
 use Rattle.fdoca.specs.FieldType.{type_of}
 use Rattle.fdoca.specs.Triplet.{triplets, Kind, rlo, gda, Group, taken}
 use Rattle.fdoca.specs.Item.{Field}

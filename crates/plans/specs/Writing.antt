@@ -1,7 +1,7 @@
 -- What the functions that write a plan find at a place of a descriptor.
-use Rattle.std.specs.Prelude.{ℕ, ◌+◌, ◌-◌, ◌*◌, ◌/◌, ◌%◌, ◌≡◌, List, [], ltb, eqb, length, get_or}
+use Rattle.std.specs.Prelude.{ℕ, ◌+◌, ◌-◌, ◌*◌, ◌/◌, ◌%◌, ◌≡◌, List, [], ltb, eqb, length, get_or, if◌then◌else◌}
 use Rattle.std.proofs.Math.Option.{some}
-use Rattle.fdoca.specs.Basics.{if◌then◌else◌, lookup}
+use Rattle.fdoca.specs.Basics.{lookup}
 use Rattle.fdoca.specs.FieldType.{type_of}
 use Rattle.fdoca.specs.Triplet.{Kind, gda, Group}
 use Rattle.fdoca.specs.Item.{Field}

@@ -1,5 +1,6 @@
 -- An SDA's bytes: its LENGTH, its extents and their product, and what makes its parameters good.
 -- Assumes nothing.
+use Rattle.std.specs.Prelude.{if◌then◌else◌}
 use mathlib.Core.Path.{◌≡◌, refl, sym, ap, ◌∙◌}
 use mathlib.Core.Logic.{◌≢◌}
 use Prim.Native.Nat.{ℕ, zero, suc, ◌+◌, ◌*◌, ◌≤◌, ◌<◌}
@@ -14,7 +15,7 @@ use lib.Seq.{drop-cons, length-take-le}
 use borrow.Author.Tests.{lt-ltb, le-ltb, eq-eqb, ne_eqb, eqb-true}
 use mir.Syntax.{w64}
 use mir.Val.{Fits}
-use Rattle.fdoca.specs.Basics.{if◌then◌else◌, elem, product, refuse}
+use Rattle.fdoca.specs.Basics.{elem, product, refuse}
 use Rattle.fdoca.specs.Triplet.{pairs, extents_of, id_of, code_of, parameters_of}
 use Rattle.fdoca.specs.FieldType.{type_of}
 use Rattle.fdoca.specs.Check.{Entry, is_described, good_length_sda, good_type, good_sda, check_sda}

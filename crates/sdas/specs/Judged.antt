@@ -1,7 +1,7 @@
 -- What judging an SDA gives.
-use Rattle.std.specs.Prelude.{ℕ, ◌+◌, ◌≤◌, ◌≡◌, ◌≢◌, true, List, [], ◌∷◌, ltb, length, get_or}
+use Rattle.std.specs.Prelude.{ℕ, ◌+◌, ◌≤◌, ◌≡◌, ◌≢◌, true, List, [], ◌∷◌, ltb, length, get_or, if◌then◌else◌}
 use Rattle.std.proofs.Math.Option.{none}
-use Rattle.fdoca.specs.Basics.{if◌then◌else◌, big, product}
+use Rattle.fdoca.specs.Basics.{big, product}
 use Rattle.fdoca.specs.Triplet.{id_of, code_of, parameters_of, extents_of}
 use Rattle.fdoca.specs.Check.{Entry, array, State, good_length_sda, good_sda, check_sda}
 use Rattle.field_types.specs.Parameters.{shape_of, no_shape}

@@ -1,7 +1,7 @@
 -- How the check's code stands to document 01's definitions: the numbers that are kept of an id, and a refusal told by its number alone.
-use Rattle.std.specs.Prelude.{ℕ, ◌/◌, ◌%◌, ◌<◌, ◌≡◌, ◌≢◌, List, [], ◌∷◌, eqb, get_or}
+use Rattle.std.specs.Prelude.{ℕ, ◌/◌, ◌%◌, ◌<◌, ◌≡◌, ◌≢◌, List, [], ◌∷◌, eqb, get_or, if◌then◌else◌}
 use Rattle.std.proofs.Math.Option.{Option, none, some}
-use Rattle.fdoca.specs.Basics.{if◌then◌else◌, product, lookup, Result, refuse, ok}
+use Rattle.fdoca.specs.Basics.{product, lookup, Result, refuse, ok}
 use Rattle.fdoca.specs.Check.{Entry, array, row, count_of}
 use Rattle.plans.specs.Tied.{lower_of}
 

@@ -1,5 +1,6 @@
 -- The ways through judging an ISD.
 -- Assumes nothing.
+use Rattle.std.specs.Prelude.{if◌then◌else◌}
 use mathlib.Core.Path.{◌≡◌, refl, sym, ap}
 use Prim.Native.Nat.{ℕ, zero, suc, ◌≤◌, ◌<◌}
 use native.Mathlib.Omega.{arith}
@@ -8,7 +9,7 @@ use mathlib.Core.List.{List, [], ◌∷◌}
 use lib.Dec.{eqb}
 use lib.ListN.{length, get_or, get_or-eq_default}
 use borrow.Author.Tests.{eq-eqb, ne_eqb, eqb-true}
-use Rattle.fdoca.specs.Basics.{if◌then◌else◌, elem, big}
+use Rattle.fdoca.specs.Basics.{elem, big}
 use Rattle.fdoca.specs.Triplet.{subset_of, version_of}
 use Rattle.fdoca.specs.Check.{good_length_isd, good_isd, check_isd}
 use Rattle.numbers.proofs.Pairs.{two_at}

@@ -1,5 +1,6 @@
 -- The ways through judging an RLO, a GDA and a CPT.
 -- Assumes nothing.
+use Rattle.std.specs.Prelude.{if◌then◌else◌}
 use mathlib.Core.Path.{◌≡◌, refl, sym, ◌∙◌}
 use Prim.Native.Nat.{ℕ, ◌<◌}
 use native.Mathlib.Omega.{arith}
@@ -8,7 +9,7 @@ use mathlib.Core.List.{List}
 use lib.Dec.{eqb}
 use lib.ListN.{length, get_or}
 use borrow.Author.Tests.{eq-eqb, ne_eqb}
-use Rattle.fdoca.specs.Basics.{if◌then◌else◌, refuse, ok, ◌>>=◌}
+use Rattle.fdoca.specs.Basics.{refuse, ok, ◌>>=◌}
 use Rattle.fdoca.specs.Triplet.{Kind, id_of, groups_of}
 use Rattle.fdoca.specs.Check.{is_described, good_length_row, check_row, check_cpt}
 use Rattle.plans.specs.Tied.{kind_of}

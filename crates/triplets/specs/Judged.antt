@@ -1,7 +1,7 @@
 -- What judging an RLO, a GDA, a CPT or an ISD gives.
-use Rattle.std.specs.Prelude.{ℕ, ◌+◌, ◌%◌, ◌≤◌, ◌<◌, ◌≡◌, ◌≢◌, Bool, ◌&&◌, List, ltb, length, get_or, drop}
+use Rattle.std.specs.Prelude.{ℕ, ◌+◌, ◌%◌, ◌≤◌, ◌<◌, ◌≡◌, ◌≢◌, Bool, ◌&&◌, List, ltb, length, get_or, drop, if◌then◌else◌}
 use Rattle.std.proofs.Math.Option.{Option, some}
-use Rattle.fdoca.specs.Basics.{if◌then◌else◌, is_empty}
+use Rattle.fdoca.specs.Basics.{is_empty}
 use Rattle.fdoca.specs.Triplet.{Kind, rlo, gda, Group, threes, id_of}
 use Rattle.fdoca.specs.Check.{Entry, State, max_items, add_group, add_groups, check_row, check_cpt, check_isd}
 use Rattle.plans.specs.Tied.{kind_of}

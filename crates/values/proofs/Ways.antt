@@ -1,5 +1,6 @@
 -- The ways through `four_or_eight`, `is_read`, `float_of` and `read`.
 -- Assumes nothing.
+use Rattle.std.specs.Prelude.{if◌then◌else◌}
 use mathlib.Core.Path.{◌≡◌, refl, sym, ap, ◌∙◌}
 use mathlib.Core.Logic.{◌⊎◌, inl, inr}
 use Prim.Native.Nat.{ℕ, ◌≤◌, ◌<◌}
@@ -14,7 +15,7 @@ use lib.ListN.{length}
 use borrow.Author.Tests.{eq-eqb, ne_eqb, le-leb}
 use Rattle.fdoca.specs.declared.Value.TheVariants.{Whole, Real}
 use Rattle.fdoca.specs.declared.Valued.{Valued}
-use Rattle.fdoca.specs.Basics.{if◌then◌else◌, elem, lookup, is_some, big, refuse, ok, the}
+use Rattle.fdoca.specs.Basics.{elem, lookup, is_some, big, refuse, ok, the}
 use Rattle.fdoca.specs.FieldType.{FieldType, fixed_bytes, variable_bytes, terminated_bytes, short_bytes, integer, reversed_integer, packed_decimal, hex_float, reversed_float, binary_float, types}
 use Rattle.fdoca.specs.Float.{Format, short_hexadecimal, long_hexadecimal, short_binary, long_binary, float_of}
 use Rattle.fdoca.specs.Calls as calls

@@ -1,8 +1,8 @@
 -- How the bytes of a value are read, by the plain type code and the length of its field.
-use Rattle.std.specs.Prelude.{◌≡◌, ℕ, List, eqb, length}
+use Rattle.std.specs.Prelude.{◌≡◌, ℕ, List, eqb, length, if◌then◌else◌}
 use Rattle.std.proofs.Math.Option.{Option, none, some}
 use Rattle.fdoca.specs.declared.Valued.{Valued}
-use Rattle.fdoca.specs.Basics.{if◌then◌else◌, lookup, the}
+use Rattle.fdoca.specs.Basics.{lookup, the}
 use Rattle.fdoca.specs.FieldType.{FieldType, types}
 use Rattle.fdoca.specs.Float.{Format, short_hexadecimal, long_hexadecimal, short_binary, long_binary}
 use Rattle.fdoca.specs.Calls.{Reading, reading_by, read_by, value_answer}

@@ -1,5 +1,6 @@
 -- An item by its mark, where the walk has found the block good.
 -- Assumes nothing.
+use Rattle.std.specs.Prelude.{if◌then◌else◌}
 use Prim.Native.Nat.{ℕ, ◌+◌, ◌-◌, ◌/◌, ◌%◌, ◌≤◌}
 use mathlib.Core.Path.{◌≡◌, refl, sym, ap, ◌∙◌}
 use mathlib.Core.Bool.{Bool, true, false}
@@ -8,7 +9,7 @@ use native.Mathlib.Omega.{arith}
 use lib.Dec.{leb, eqb}
 use lib.ListN.{length, drop, length-drop}
 use borrow.Author.Tests.{eqb-true, eqb-false}
-use Rattle.fdoca.specs.Basics.{if◌then◌else◌, ok}
+use Rattle.fdoca.specs.Basics.{ok}
 use Rattle.fdoca.specs.Item.{Field, item}
 use Rattle.fdoca.specs.Walk.{Note, item_length, Cut, note_of, with, cut_from}
 use Rattle.fdoca.proofs.Within.{within}

@@ -1,5 +1,6 @@
 -- One step of the walk, as one number.
 -- Assumes nothing.
+use Rattle.std.specs.Prelude.{if◌then◌else◌}
 use Prim.Native.Nat.{ℕ, ◌+◌, ◌-◌, ◌*◌, ◌/◌, ◌%◌, ◌<◌, ◌≤◌}
 use mathlib.Core.Path.{◌≡◌, refl, sym, ap, ◌∙◌}
 use mathlib.Core.Bool.{Bool, true, false, not}
@@ -9,7 +10,6 @@ use lib.Dec.{leb, eqb}
 use lib.ListN.{length, take, drop, length-drop}
 use borrow.Author.Tests.{eqb-true, eqb-false, ne_eqb}
 use borrow.Author.Rules.{part_to_end}
-use Rattle.fdoca.specs.Basics.{if◌then◌else◌}
 use Rattle.fdoca.specs.Item.{measure_fixed, measure_value, measure_item}
 use Rattle.fdoca.proofs.Tests.{and_left, and_right}
 use Rattle.field_types.specs.Rows.{layout_of}

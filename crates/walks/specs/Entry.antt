@@ -1,6 +1,5 @@
 -- The item that a plan's number says to measure, whatever its highest 16 bits hold, and the walk's step over it.
-use Rattle.std.specs.Prelude.{ℕ, ◌+◌, ◌*◌, ◌/◌, ◌%◌, ◌≤◌, ◌<◌, ◌≡◌, Bool, not, ◌&&◌, List, eqb, length, drop}
-use Rattle.fdoca.specs.Basics.{if◌then◌else◌}
+use Rattle.std.specs.Prelude.{ℕ, ◌+◌, ◌*◌, ◌/◌, ◌%◌, ◌≤◌, ◌<◌, ◌≡◌, Bool, not, ◌&&◌, List, eqb, length, drop, if◌then◌else◌}
 use Rattle.fdoca.specs.FieldType.{nullable}
 use Rattle.fdoca.specs.Item.{measure_item}
 use Rattle.fdoca.specs.Item as defined
