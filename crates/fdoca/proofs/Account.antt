@@ -14,7 +14,7 @@ use borrow.Author.Tests.{ltb-true, ltb-false, leb-false, eqb-true, eqb-false, lt
 use Rattle.fdoca.specs.Basics.{big, in_base}
 use Rattle.fdoca.specs.FieldType.{FieldType, fixed_bytes, variable_bytes, terminated_bytes, short_bytes, integer, reversed_integer, packed_decimal, hex_float, reversed_float, binary_float, LengthField, signed_two, unsigned_one, fixed, Size, bytes, digits, in_bytes, rule_of}
 use Rattle.fdoca.specs.Item.{Field, field_length, Measured, refused, item, Space, unbounded, limited, reserved, space, width, is_negative, is_over, unused, indicated, before_zero, measure_fixed, measure_body, measure_counted, measure_terminated, measure_value, measure_nullable, measure_item, measure}
-use Rattle.fdoca.specs.Account.{FixedLength, string, binary, binary_reversed, packed, hex_float_lem, float_reversed, float, Fills, of_bytes, of_half_bytes, one_unused, Reserved, no_limit, value_only, all_sent, NonZero, none_left, one_more, Value, of_size, after_two, after_one, before_zero_lem, Item, plain, null, value, Parts, Begins}
+use Rattle.fdoca.specs.Account.{FixedLength, string, binary, binary_reversed, packed, float_hex, float_reversed, float, Fills, of_bytes, of_half_bytes, one_unused, Reserved, no_limit, value_only, all_sent, NonZero, none_left, one_more, Value, of_size, after_two, after_one, up_to_zero, Item, plain, null, value, Parts, Begins}
 use Rattle.fdoca.proofs.Tests.{by_test, by_le, by_lt, by_eq}
 
 -- what measuring says of an item's parts
@@ -38,7 +38,7 @@ fixed_layout string = refl
 fixed_layout binary = refl
 fixed_layout binary_reversed = refl
 fixed_layout packed = refl
-fixed_layout hex_float_lem = refl
+fixed_layout float_hex = refl
 fixed_layout float_reversed = refl
 fixed_layout float = refl
 
@@ -141,7 +141,7 @@ measured_value mode z T p v r rest (after_two {a = a} {b = b} e h res) =
     measured_counted signed_two (a ∷ b ∷ []) mode (in_bytes z) v r rest res refl (big_two a b ∙ e) (lt-leb 0x8000 (length v) h)
 measured_value mode z T p v r rest (after_one {a = a} e res) =
     measured_counted unsigned_one (a ∷ []) mode (in_bytes z) v r rest res refl (big_one a ∙ e) refl
-measured_value mode z T p v r rest (before_zero_lem {r = r'} nz res) = measured_terminated mode (in_bytes z) v r' rest res nz
+measured_value mode z T p v r rest (up_to_zero {r = r'} nz res) = measured_terminated mode (in_bytes z) v r' rest res nz
 
 measured_item : (f : Field) (z : Bool) (p v r rest : List ℕ) → Item f z p v r
     → measure f (p ++ (v ++ (r ++ rest))) ≡ item z (length p) (length v) (length r)
@@ -307,7 +307,7 @@ module _ (mode : ℕ) (y : Size) (s : List ℕ) where
         spare = 0 ∷ take r (drop (suc k) s);
         rest = drop r (drop (suc k) s);
         split = l;
-        kind = no_null (before_zero_lem (zero_at s).0 q);
+        kind = no_null (up_to_zero (zero_at s).0 q);
         lead_length = refl;
         value_length = e₁;
         spare_length = ap suc e₂;
@@ -342,7 +342,7 @@ parsed_value mode z short_bytes s = parsed_counted unsigned_one mode z s short_b
 parsed_value mode z integer s = parsed_fixed mode z integer s binary
 parsed_value mode z reversed_integer s = parsed_fixed mode z reversed_integer s binary_reversed
 parsed_value mode z packed_decimal s = parsed_fixed mode z packed_decimal s packed
-parsed_value mode z hex_float s = parsed_fixed mode z hex_float s hex_float_lem
+parsed_value mode z hex_float s = parsed_fixed mode z hex_float s float_hex
 parsed_value mode z reversed_float s = parsed_fixed mode z reversed_float s float_reversed
 parsed_value mode z binary_float s = parsed_fixed mode z binary_float s float
 

@@ -19,7 +19,7 @@ use Rattle.fdoca.specs.Check as C
 use Rattle.fdoca.specs.Item.{Field}
 use Rattle.fdoca.specs.Unfolding.{Described, fields_taken, fields_referred, Layouts, last_group, rows_of, rows_at_end, repeated, unfold_triplets}
 use Rattle.fdoca.specs.Unfolding as U
-use Rattle.fdoca.specs.Reasons.{place, length_byte, NotTorn, There, Is, HasGroups, Describes, EndsDescriptor, group, below_2, past_the_end, Endless, no_data_lem, TooManyUpTo, of_row, OfTriplet, torn, missing_reference, not_carried, column_misfit, too_many_up_to, OfDescriptor, oversize, nothing_described, Earlier, here, further, First}
+use Rattle.fdoca.specs.Reasons.{place, length_byte, NotTorn, There, Is, HasGroups, Describes, EndsDescriptor, group, below_2, past_the_end, Endless, takes_no_data, TooManyUpTo, of_row, OfTriplet, torn, missing_reference, not_carried, column_misfit, too_many_up_to, OfDescriptor, oversize, nothing_described, Earlier, here, further, First}
 use Rattle.fdoca.specs.Reasons as R
 use Rattle.fdoca.specs.Between.{triplets_at, entry, entries, state}
 use Rattle.fdoca.proofs.Tests.{by_order}
@@ -185,7 +185,7 @@ module _ (d : List ℕ) (small : length d ≤ max_descriptor) where
 
       -- 10 is not told of a group that repeats to the end
       not_too_many : {k : ℕ} → g ≡ suc k → Endless d j k → TooManyUpTo d j k → ⊥
-      not_too_many {k} e (no_data_lem a b y z f rep nd) (of_row up o) =
+      not_too_many {k} e (takes_no_data a b y z f rep nd) (of_row up o) =
           let (m₁, m₂, u, x, w, sum) = last_counted up in
           let q = adds_nothing d a b f (up_in_row u) w in
           let (i, k', t, l) = over_at d u (omega arith) in
@@ -263,7 +263,7 @@ module _ (d : List ℕ) (small : length d ≤ max_descriptor) where
         others : {t : List ℕ} {u q : ℕ} → OfDescriptor d t u q → Earlier (3 ∷ []) t ⊎ ((t ≡ 3 ∷ []) × (u ≡ 11) × (q ≡ length d))
         others (oversize l) = absurd (let z : ⊥ = omega arith in z)
         others (R.triplet {j = i} {g = g} {step = v} {m = m} h x) = absurd (n i (all_before i h) g v m x)
-        others (R.endless h (no_data_lem {r = r} a y g z f q w)) = absurd (none_there (R.byte_of d r 2) r (record { kind = inr a.head; named = refl }))
+        others (R.endless h (takes_no_data {r = r} a y g z f q w)) = absurd (none_there (R.byte_of d r 2) r (record { kind = inr a.head; named = refl }))
         others (nothing_described f) = inr (refl, refl, refl)
     last_told (x ∷ es) k u = go (is_endless (repeated d)) refl
       where
@@ -294,7 +294,7 @@ module _ (d : List ℕ) (small : length d ≤ max_descriptor) where
             none_holds : {t : List ℕ} {m p : ℕ} → OfDescriptor d t m p → ⊥
             none_holds (oversize l) = omega arith
             none_holds (R.triplet {j = i} {g = g} {step = v} {m = m} a r) = n i (all_before i a) g v m r
-            none_holds (R.endless a (no_data_lem y z g o f q w)) = true≢false (sym (no_data_endless w) ∙ rw q at h)
+            none_holds (R.endless a (takes_no_data y z g o f q w)) = true≢false (sym (no_data_endless w) ∙ rw q at h)
             none_holds (nothing_described f) = f x.0 some_there.0 some_there.1
 
   ran_told : (x : Result State) → check_triplets begin (triplets d) ≡ x → Ran d x

@@ -22,7 +22,7 @@ use Rattle.fdoca.specs.Check.{Entry, State}
 use Rattle.fdoca.specs.Unfolding as U
 use Rattle.fdoca.specs.Unfolding.{Layouts, rows_of, rows_at_end, last_group, repeated, endless, unfold_triplets}
 use Rattle.fdoca.specs.Reasons as R
-use Rattle.fdoca.specs.Reasons.{place, length_byte, There, Is, InRow, HasGroup, taken, factor, EndsDescriptor, Adds, kept, replaced, column, UpTo, start, group, continued, NoData, none_left, one_more, Endless, no_data_lem, TooManyUpTo}
+use Rattle.fdoca.specs.Reasons.{place, length_byte, There, Is, InRow, HasGroup, taken, factor, EndsDescriptor, Adds, kept, replaced, column, UpTo, start, group, continued, NoData, none_left, one_more, Endless, takes_no_data, TooManyUpTo}
 use Rattle.fdoca.specs.Between.{triplets_at, row_counted, state}
 use Rattle.fdoca.proofs.Tests.{and_left, and_right}
 use Rattle.fdoca.proofs.Triplets.{triplets_end, triplets_left, triplets_next}
@@ -77,7 +77,7 @@ module _ (d : List ℕ) where
   ends_last i k g e = omega (arith, place_next d i)
 
   pub endless_group_lem : {i k : ℕ} → Endless d i k → HasGroup d i k × EndsDescriptor d i k
-  endless_group_lem (no_data_lem a b g e f r n) = (g, e)
+  endless_group_lem (takes_no_data a b g e f r n) = (g, e)
 
   pub not_before : {i j k : ℕ} → There d i → Endless d i k → There d j → i < j → ⊥
   not_before {i} {j} {k} a x h l =
@@ -144,7 +144,7 @@ module _ (d : List ℕ) (j : ℕ) (st : State) (b : Before d j st) (e : place d 
       let o : place d x.before_it + length_byte d x.before_it ≡ length d = at_end x in
       let p : place d x.before_it + (5 + 3 * x.group_is) ≡ length d - 1 = omega (arith, x.whole_groups) in
       let y : Endless d x.before_it x.group_is =
-      no_data_lem (up_in_row x.up_to) x.is_rlo (omega (arith, x.whole_groups)) (omega (arith, x.whole_groups)) (ap (λ y. get_or d y 0) p ∙ x.factor_0) q w in
+      takes_no_data (up_in_row x.up_to) x.is_rlo (omega (arith, x.whole_groups)) (omega (arith, x.whole_groups)) (ap (λ y. get_or d y 0) p ∙ x.factor_0) q w in
       (x.before_it, x.group_is, x.is_last, y)
 
   -- what it refers to

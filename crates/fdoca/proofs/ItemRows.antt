@@ -15,7 +15,7 @@ use borrow.Author.Tests.{eqb-true, leb-true, eqb-false, le-leb, ne_eqb}
 use Rattle.fdoca.specs.Basics.{lookup, big, elem}
 use Rattle.fdoca.specs.FieldType.{FieldType, fixed_bytes, variable_bytes, terminated_bytes, short_bytes, integer, reversed_integer, packed_decimal, hex_float, reversed_float, binary_float, types, plain, type_of, LengthField, signed_two, unsigned_one, Layout, fixed, counted, terminated, rule_of}
 use Rattle.fdoca.specs.Item.{Field, field_length, Measured, refused, item, Space, unbounded, limited, reserved, space, width, is_negative, is_over, indicated, before_zero, measure_value, measure_nullable, measure_item, measure}
-use Rattle.fdoca.specs.Account.{FixedLength, string, binary, binary_reversed, packed, hex_float_lem, float_reversed, float}
+use Rattle.fdoca.specs.Account.{FixedLength, string, binary, binary_reversed, packed, float_hex, float_reversed, float}
 use Rattle.fdoca.specs.Reasons as R
 use Rattle.fdoca.specs.Reasons.{OneOf, here, there, HasType, Behind, no_indicator, high_bit_0, L, of_two, of_one, Sent, NoZero, ShortData, indicator, length_two, length_one, not_yet, BadCount, NoEnd, none_zero, BadIndicator, from_01_to_7f, OfItem, short_data, bad_indicator, bad_count, no_end}
 use Rattle.fdoca.proofs.Table.{looked_up}
@@ -98,7 +98,7 @@ module _ (f : Field) (typed : type_of f.code ≡ some f.type) where
       & (integer, binary, omega arith, refl)
       & (reversed_integer, binary_reversed, omega arith, refl)
       & (packed_decimal, packed, omega arith, refl)
-      & (hex_float, hex_float_lem, omega arith, refl)
+      & (hex_float, float_hex, omega arith, refl)
       & (reversed_float, float_reversed, omega arith, refl)
       & (binary_float, float, omega arith, refl)
       & end) in

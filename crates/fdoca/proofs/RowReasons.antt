@@ -16,7 +16,7 @@ use Rattle.fdoca.specs.FieldType as P
 use Rattle.fdoca.specs.Item.{Field, field_length, item, measure}
 use Rattle.fdoca.specs.Walk.{Note, item_length, Cut, note_of, with, cut_from, walk, walk_rows}
 use Rattle.fdoca.specs.Unfolding.{endless}
-use Rattle.fdoca.specs.Account.{FixedLength, string, binary, binary_reversed, packed, hex_float_lem, float_reversed, float, of_bytes, of_half_bytes, one_unused, Value, of_size, after_two, after_one, before_zero_lem, Item, plain, null, value, Parts, Block}
+use Rattle.fdoca.specs.Account.{FixedLength, string, binary, binary_reversed, packed, float_hex, float_reversed, float, of_bytes, of_half_bytes, one_unused, Value, of_size, after_two, after_one, up_to_zero, Item, plain, null, value, Parts, Block}
 use Rattle.fdoca.specs.Reasons.{OfItem, StartsAt, OfItems, with_passes, ComesTo, OfRows, too_many, Earlier, here, further, First, None}
 use Rattle.fdoca.proofs.Tests.{by_order}
 use Rattle.fdoca.proofs.Results.{ok_bind}
@@ -112,14 +112,14 @@ no_value (of_size {T = T} k (of_bytes {F = F} l)) h a b c = go k h (sym l ∙ ap
     go binary h e = absurd (true≢false (sym h ∙ rw e))
     go binary_reversed h e = absurd (true≢false (sym h ∙ rw e))
     go packed h e = absurd (true≢false (sym h))
-    go hex_float_lem h e = absurd (true≢false (sym h ∙ rw e))
+    go float_hex h e = absurd (true≢false (sym h ∙ rw e))
     go float_reversed h e = absurd (true≢false (sym h ∙ rw e))
     go float h e = absurd (true≢false (sym h ∙ rw e))
 no_value (of_size k (of_half_bytes l)) h a b c = absurd (let z : ⊥ = omega (arith, ap length b) in z)
 no_value (of_size k (one_unused l)) h a b c = absurd (let z : ⊥ = omega (arith, ap length b) in z)
 no_value (after_two e l s) h a b c = absurd (let z : ⊥ = omega (arith, ap length a) in z)
 no_value (after_one e s) h a b c = absurd (let z : ⊥ = omega (arith, ap length a) in z)
-no_value (before_zero_lem n s) h a b c = absurd (let z : ⊥ = omega (arith, ap length c) in z)
+no_value (up_to_zero n s) h a b c = absurd (let z : ⊥ = omega (arith, ap length c) in z)
 
 no_item : {f : Field} {z : Bool} {p v r : List ℕ} → Item f z p v r → GoodField f → p ≡ [] → v ≡ [] → r ≡ [] → (f.code ≡ 0x01) × (field_length f ≡ 0)
 no_item {f} (plain l x) g a b c =

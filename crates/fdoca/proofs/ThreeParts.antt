@@ -15,7 +15,7 @@ use Rattle.fdoca.specs.Basics.{ok, the}
 use Rattle.fdoca.specs.FieldType.{FieldType, terminated_bytes, rule_of, Size}
 use Rattle.fdoca.specs.Item.{Field}
 use Rattle.fdoca.specs.Account as account
-use Rattle.fdoca.specs.Account.{NonZero, Value, of_size, after_two, after_one, before_zero_lem, Item, plain, null, Parts, Block, done, next}
+use Rattle.fdoca.specs.Account.{NonZero, Value, of_size, after_two, after_one, up_to_zero, Item, plain, null, Parts, Block, done, next}
 use Rattle.fdoca.specs.Check.{check}
 use Rattle.fdoca.specs.Unfolding.{unfolded, repeated}
 use Rattle.fdoca.specs.Walk.{Note, item_length, walk, walk_by}
@@ -63,7 +63,7 @@ unfolding rule_of
 ended_value e (of_size {T} h x) = absurd (let q = fixed_layout h in let y : ◌≡◌ {A = ℕ} 0 1 = cc in let w : ⊥ = omega arith in w)
 ended_value e (after_two a b c) = absurd (let z : ◌≡◌ {A = ℕ} 0 1 = cc in let w : ⊥ = omega arith in w)
 ended_value e (after_one a b) = absurd (let z : ◌≡◌ {A = ℕ} 0 1 = cc in let w : ⊥ = omega arith in w)
-ended_value e (before_zero_lem {r = r} h x) = (r, refl, h)
+ended_value e (up_to_zero {r = r} h x) = (r, refl, h)
 
 ended_account : {f : Field} {n : Bool} {p v r : List ℕ} → f.type ≡ terminated_bytes → n ≡ false → Item f n p v r → Ended v r
 ended_account t e (plain h x) = ended_value t x

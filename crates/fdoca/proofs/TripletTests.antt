@@ -14,7 +14,7 @@ use Rattle.fdoca.specs.Basics.{elem}
 use Rattle.fdoca.specs.FieldType.{FieldType, type_of, rule_of}
 use Rattle.fdoca.specs.Triplet.{id_of, code_of, parameters_of, extents_of, subset_of, version_of}
 use Rattle.fdoca.specs.Check.{good_type, good_length_sda, good_sda, good_length_row, good_length_isd, good_isd}
-use Rattle.fdoca.specs.Reasons.{OneOf, here, there, length_byte, byte_of, NotTorn, sda_byte, rlo_byte, gda_byte, isd_byte, cpt_byte, Is, HasGroups, Describes, extent, GoodParameters, Form, sda, with_groups_lem, isd, BadLength, BadParameter, own_id_0, parameters, extent_0, reserved, isd_id, subset, version}
+use Rattle.fdoca.specs.Reasons.{OneOf, here, there, length_byte, byte_of, NotTorn, sda_byte, rlo_byte, gda_byte, isd_byte, cpt_byte, Is, HasGroups, Describes, extent, GoodParameters, Form, sda, of_groups, isd, BadLength, BadParameter, own_id_0, parameters, extent_0, reserved, isd_id, subset, version}
 use Rattle.fdoca.proofs.Tests.{and_left, and_right}
 use Rattle.fdoca.proofs.TripletBytes.{bytes_of, length_bytes, byte_bytes, byte_parameters, bias_bytes, mode_bytes, extents_from, extents_end, subset_bytes, version_bytes, version_left_off}
 use Rattle.fdoca.proofs.TypeRows.{elem_in, elem_out, good_parts, parts_good, rule_holds, table_holds, type_of_code}
@@ -80,21 +80,21 @@ no_groups {c = c} {A = A} (there (there (there x15))) a b h = elim x15 [ ]
 
 sda_form : {c n : ℕ} → Form c n → c ≡ sda_byte → OneOf n (12 ∷ 14 ∷ 16 ∷ 18 ∷ [])
 sda_form (sda o) e = o
-sda_form (with_groups_lem k o) e = no_groups o (omega arith) (omega arith) (omega arith)
+sda_form (of_groups k o) e = no_groups o (omega arith) (omega arith) (omega arith)
 sda_form (isd o) e = absurd (let z : ⊥ = omega arith in z)
 
 isd_form : {c n : ℕ} → Form c n → c ≡ isd_byte → OneOf n (5 ∷ 6 ∷ [])
 isd_form (sda o) e = absurd (let z : ⊥ = omega arith in z)
-isd_form (with_groups_lem k o) e = no_groups o (omega arith) (omega arith) (omega arith)
+isd_form (of_groups k o) e = no_groups o (omega arith) (omega arith) (omega arith)
 isd_form (isd o) e = o
 
 row_form_of : {c n : ℕ} → Form c n → OneOf c (rlo_byte ∷ gda_byte ∷ cpt_byte ∷ []) → (k : ℕ) × (n ≡ 6 + 3 * k)
 row_form_of (sda o) r = no_groups r (omega arith) (omega arith) (omega arith)
-row_form_of (with_groups_lem k o) r = (k, refl)
+row_form_of (of_groups k o) r = (k, refl)
 row_form_of (isd o) r = no_groups r (omega arith) (omega arith) (omega arith)
 
 row_has_form : {c n : ℕ} → OneOf c (rlo_byte ∷ gda_byte ∷ cpt_byte ∷ []) → (k : ℕ) × (n ≡ 6 + 3 * k) → Form c n
-row_has_form o k = rw k.1 (with_groups_lem k.0 o)
+row_has_form o k = rw k.1 (of_groups k.0 o)
 
 module _ (d : List ℕ) (j : ℕ) (w : NotTorn d j) where
   pub extents_are : OneOf (length_byte d j) (12 ∷ 14 ∷ 16 ∷ 18 ∷ []) → Extents d j (extents_of (bytes_of d j))

@@ -17,7 +17,7 @@ use Rattle.fdoca.specs.FieldType.{FieldType, fixed_bytes, variable_bytes, termin
 use Rattle.fdoca.specs.Triplet.{bias_of, mode_of, size_in}
 use Rattle.fdoca.specs.Check.{most, suits_type, good_parameters, good_type}
 use Rattle.fdoca.specs.Reasons as R
-use Rattle.fdoca.specs.Reasons.{OneOf, here, there, F, Suits, Allowed, fixed, variable, null_terminated, short, whole_number_lem, reversed_whole_number, packed, hexadecimal_float, reversed_float_lem, float, Means, hexadecimal_default, reversed_default, float_default, nullable_default, Hold, as_given, by_default}
+use Rattle.fdoca.specs.Reasons.{OneOf, here, there, F, Suits, Allowed, fixed, variable, null_terminated, short, whole_number_row, reversed_whole_number, packed, hexadecimal_float, reversed_float_row, float, Means, hexadecimal_default, reversed_default, float_default, nullable_default, Hold, as_given, by_default}
 use Rattle.fdoca.proofs.Table.{looked_up}
 use Rattle.fdoca.proofs.Tests.{and_left, and_right}
 
@@ -187,11 +187,11 @@ module _ (bias mode a b : ℕ) where
   allowed variable_bytes h = no_bias h.bias_is (variable (leb-true (F a b) 32767 h.size_is) h.mode_is)
   allowed terminated_bytes h = no_bias h.bias_is (null_terminated (leb-true (F a b) 32767 h.size_is) h.mode_is)
   allowed short_bytes h = no_bias h.bias_is (short (leb-true (F a b) 255 h.size_is) h.mode_is)
-  allowed integer h = bare h.bias_is h.mode_is (whole_number_lem (elem_in (F a b) (2 ∷ 4 ∷ 8 ∷ []) h.size_is))
+  allowed integer h = bare h.bias_is h.mode_is (whole_number_row (elem_in (F a b) (2 ∷ 4 ∷ 8 ∷ []) h.size_is))
   allowed reversed_integer h = bare h.bias_is h.mode_is (reversed_whole_number (elem_in (F a b) (2 ∷ 4 ∷ 8 ∷ []) h.size_is))
   allowed packed_decimal h = bare h.bias_is h.mode_is (of_digits h.size_is)
   allowed hex_float h = bare h.bias_is h.mode_is (hexadecimal_float (elem_in (F a b) (4 ∷ 8 ∷ 16 ∷ []) h.size_is))
-  allowed reversed_float h = no_mode h.mode_is (reversed_float_lem (elem_in (F a b) (4 ∷ 8 ∷ []) h.size_is) h.bias_is)
+  allowed reversed_float h = no_mode h.mode_is (reversed_float_row (elem_in (F a b) (4 ∷ 8 ∷ []) h.size_is) h.bias_is)
   allowed binary_float h = no_mode h.mode_is (float (elem_in (F a b) (4 ∷ 8 ∷ []) h.size_is) h.bias_is)
 
 -- The rule of a code's type allows what the table does,
@@ -231,13 +231,13 @@ table_allows (fixed {a = a} {b = b} h) = made fixed_bytes refl (omega arith) (om
 table_allows (variable {a = a} {b = b} h m) = made variable_bytes refl (omega arith) (omega arith) m (le-leb (F a b) 32767 h)
 table_allows (null_terminated {a = a} {b = b} h m) = made terminated_bytes refl (omega arith) (omega arith) m (le-leb (F a b) 32767 h)
 table_allows (short {a = a} {b = b} h m) = made short_bytes refl (omega arith) (omega arith) m (le-leb (F a b) 255 h)
-table_allows (whole_number_lem h) = made integer refl (omega arith) (omega arith) (omega arith) (in_elem h)
+table_allows (whole_number_row h) = made integer refl (omega arith) (omega arith) (omega arith) (in_elem h)
 table_allows (reversed_whole_number h) = made reversed_integer refl (omega arith) (omega arith) (omega arith) (in_elem h)
 table_allows (packed {p = p} {q = q} l h k) =
     let z : (leb 1 p && leb p 18 && leb q p) ≡ true = rw (le-leb 1 p l, le-leb p 18 h, le-leb q p k) in
     made packed_decimal refl (omega arith) (omega arith) (omega arith) z
 table_allows (hexadecimal_float h) = made hex_float refl (omega arith) (omega arith) (omega arith) (in_elem h)
-table_allows (reversed_float_lem h l) = made reversed_float refl (omega arith) l (omega arith) (in_elem h)
+table_allows (reversed_float_row h l) = made reversed_float refl (omega arith) l (omega arith) (in_elem h)
 table_allows (float h l) = made binary_float refl (omega arith) l (omega arith) (in_elem h)
 table_allows (R.nullable k h) =
     let t = table_allows h in

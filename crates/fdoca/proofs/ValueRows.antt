@@ -21,7 +21,7 @@ use Rattle.fdoca.specs.Packed.{all_below}
 use Rattle.fdoca.specs.Float.{Format, short_hexadecimal, long_hexadecimal, short_binary, long_binary, characteristic, float_of}
 use Rattle.fdoca.specs.Calls.{Reading, whole, float, reading_by, reading_of, ordered, real, read_by, value}
 use Rattle.fdoca.specs.Reasons as R
-use Rattle.fdoca.specs.Reasons.{OneOf, here, there, HasType, Numeric, whole_number_lem, reversed_whole_number, hexadecimal_float, reversed_float_lem, Bits, as_sent, byte_reversed, NoExactFloat, above_254, above_2046, over_53, OfState, OfValue, state, wrong_kind, no_exact_float}
+use Rattle.fdoca.specs.Reasons.{OneOf, here, there, HasType, Numeric, whole_number_row, reversed_whole_number, hexadecimal_float, reversed_float_row, Bits, as_sent, byte_reversed, NoExactFloat, above_254, above_2046, over_53, OfState, OfValue, state, wrong_kind, no_exact_float}
 use Rattle.fdoca.proofs.Tests.{and_left, and_right}
 use Rattle.fdoca.proofs.Fields.{GoodField}
 use Rattle.fdoca.proofs.TypeRows.{elem_in, plain_code}
@@ -65,11 +65,11 @@ module _ (f : Field) (g : GoodField f) where
   -- a field without a reading has none of the numeric types
   none_wrong : reading_of f ≡ none → Numeric f → ⊥
   unfolding reading_by rule_of
-  none_wrong n (whole_number_lem t) = not_none (rw (type_is f g.typed 0x23 integer (omega arith) refl t) at n)
+  none_wrong n (whole_number_row t) = not_none (rw (type_is f g.typed 0x23 integer (omega arith) refl t) at n)
   none_wrong n (reversed_whole_number t) = not_none (rw (type_is f g.typed 0x24 reversed_integer (omega arith) refl t) at n)
   none_wrong n (hexadecimal_float t x) =
       by_length (λ F. reading_by hex_float F f.bias ≡ none → ⊥) (field_length f) not_none not_none x (rw (type_is f g.typed 0x40 hex_float (omega arith) refl t) at n)
-  none_wrong n (reversed_float_lem t b) =
+  none_wrong n (reversed_float_row t b) =
       let e = type_is f g.typed 0x47 reversed_float (omega arith) refl t in
       by_length (λ F. reading_by reversed_float F 0 ≡ none → ⊥) (field_length f) not_none not_none (sized (4 ∷ 8 ∷ []) f.size (rw e at g.allowed)) (rw (e, b) at n)
   none_wrong n (R.float t b) =
@@ -126,13 +126,13 @@ module _ (f : Field) (g : GoodField f) where
       go packed_decimal e k = no k
 
   numeric : {r : Reading} → Read r → Numeric f
-  numeric (as_whole (inl t)) = whole_number_lem t
+  numeric (as_whole (inl t)) = whole_number_row t
   numeric (as_whole (inr t)) = reversed_whole_number t
   numeric (hexadecimal_4 t l) = hexadecimal_float t (here l)
   numeric (hexadecimal_8 t l) = hexadecimal_float t (there (here l))
-  numeric (binary_4 (last_first t) z l) = reversed_float_lem t z
+  numeric (binary_4 (last_first t) z l) = reversed_float_row t z
   numeric (binary_4 (first_first t) z l) = R.float t z
-  numeric (binary_8 (last_first t) z l) = reversed_float_lem t z
+  numeric (binary_8 (last_first t) z l) = reversed_float_row t z
   numeric (binary_8 (first_first t) z l) = R.float t z
 
   -- its bits

@@ -10,7 +10,7 @@ pub data FixedLength : FieldType → Type 0 where
   binary : FixedLength integer
   binary_reversed : FixedLength reversed_integer
   packed : FixedLength packed_decimal
-  hex_float_lem : FixedLength hex_float
+  float_hex : FixedLength hex_float
   float_reversed : FixedLength reversed_float
   float : FixedLength binary_float
 
@@ -43,7 +43,7 @@ pub data Value (mode : ℕ) (z : Size) : FieldType → List ℕ → List ℕ →
   -- L, a one-byte unsigned binary integer
   after_one : {a : ℕ} {v r : List ℕ} → a ≡ length v → Reserved mode (in_bytes z) (length v) r → Value mode z short_bytes (a ∷ []) v r
   -- bytes that are not zero, and a zero byte
-  before_zero_lem : {v r : List ℕ} → NonZero v → Reserved mode (in_bytes z) (length v) r → Value mode z terminated_bytes [] v (0 ∷ r)
+  up_to_zero : {v r : List ℕ} → NonZero v → Reserved mode (in_bytes z) (length v) r → Value mode z terminated_bytes [] v (0 ∷ r)
 
 -- The bytes of an item: of a type that is not nullable, of a null, and of a value behind its null indicator. An item with any other indicator is spoiled
 -- (document 02, Q-8).

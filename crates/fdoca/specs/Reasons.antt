@@ -152,11 +152,11 @@ pub data Allowed : (code bias mode a b : ℕ) → Type 0 where
   variable : {mode a b : ℕ} → F a b ≤ 32767 → mode ≤ 1 → Allowed 0x02 0 mode a b
   null_terminated : {mode a b : ℕ} → F a b ≤ 32767 → mode ≤ 1 → Allowed 0x03 0 mode a b
   short : {mode a b : ℕ} → F a b ≤ 255 → mode ≤ 1 → Allowed 0x07 0 mode a b
-  whole_number_lem : {a b : ℕ} → OneOf (F a b) (2 ∷ 4 ∷ 8 ∷ []) → Allowed 0x23 0 0 a b
+  whole_number_row : {a b : ℕ} → OneOf (F a b) (2 ∷ 4 ∷ 8 ∷ []) → Allowed 0x23 0 0 a b
   reversed_whole_number : {a b : ℕ} → OneOf (F a b) (2 ∷ 4 ∷ 8 ∷ []) → Allowed 0x24 0 0 a b
   packed : {p q : ℕ} → 1 ≤ p → p ≤ 18 → q ≤ p → Allowed 0x30 0 0 p q
   hexadecimal_float : {a b : ℕ} → OneOf (F a b) (4 ∷ 8 ∷ 16 ∷ []) → Allowed 0x40 0 0 a b
-  reversed_float_lem : {bias a b : ℕ} → OneOf (F a b) (4 ∷ 8 ∷ []) → bias ≤ 1 → Allowed 0x47 bias 0 a b
+  reversed_float_row : {bias a b : ℕ} → OneOf (F a b) (4 ∷ 8 ∷ []) → bias ≤ 1 → Allowed 0x47 bias 0 a b
   float : {bias a b : ℕ} → OneOf (F a b) (4 ∷ 8 ∷ []) → bias ≤ 1 → Allowed 0x48 bias 0 a b
   nullable : {code bias mode a b : ℕ} → code < 0x80 → Allowed code bias mode a b → Allowed (code + 0x80) bias mode a b
 
@@ -203,7 +203,7 @@ pub data OutOfSequence (d : List ℕ) (j : ℕ) : Type 0 where
 -- 5, Bad length: LENGTH against the forms, which are 12 plus at most three extents; 3 plus a positive multiple of 3; 5 or 6.
 pub data Form : (construct size : ℕ) → Type 0 where
   sda : {n : ℕ} → OneOf n (12 ∷ 14 ∷ 16 ∷ 18 ∷ []) → Form sda_byte n
-  with_groups_lem : {c : ℕ} (k : ℕ) → OneOf c (rlo_byte ∷ gda_byte ∷ cpt_byte ∷ []) → Form c (6 + 3 * k)
+  of_groups : {c : ℕ} (k : ℕ) → OneOf c (rlo_byte ∷ gda_byte ∷ cpt_byte ∷ []) → Form c (6 + 3 * k)
   isd : {n : ℕ} → OneOf n (5 ∷ 6 ∷ []) → Form isd_byte n
 
 pub record BadLength (d : List ℕ) (j : ℕ) : Type 0 where
@@ -251,7 +251,7 @@ pub data NoData : List Field → Type 0 where
   one_more : {f : Field} {fs : List Field} → f.code ≡ 0x01 → field_length f ≡ 0 → NoData fs → NoData (f ∷ fs)
 
 pub data Endless (d : List ℕ) (j k : ℕ) : Type 0 where
-  no_data_lem : {r : ℕ} {rows : List Field} → InRow d r j → Is d rlo_byte r → HasGroup d j k → EndsDescriptor d j k → factor d j k ≡ 0 → repeated d ≡ some rows
+  takes_no_data : {r : ℕ} {rows : List Field} → InRow d r j → Is d rlo_byte r → HasGroup d j k → EndsDescriptor d j k → factor d j k ≡ 0 → repeated d ≡ some rows
       → NoData rows → Endless d j k
 
 -- 10, Too many items: the SDA's count, or the RLO's or GDA's count up to this group, over 4,096.
@@ -441,10 +441,10 @@ pub data OfPacked (d s : List ℕ) (k : ℕ) : (turn : List ℕ) → (number pla
 
 -- Q-7: the fields whose value is read: X'23' and X'24'; X'40' of 4 or 8 bytes; X'47' and X'48' with bias indicator 0.
 pub data Numeric (f : Field) : Type 0 where
-  whole_number_lem : HasType f 0x23 → Numeric f
+  whole_number_row : HasType f 0x23 → Numeric f
   reversed_whole_number : HasType f 0x24 → Numeric f
   hexadecimal_float : HasType f 0x40 → OneOf (field_length f) (4 ∷ 8 ∷ []) → Numeric f
-  reversed_float_lem : HasType f 0x47 → f.bias ≡ 0 → Numeric f
+  reversed_float_row : HasType f 0x47 → f.bias ≡ 0 → Numeric f
   float : HasType f 0x48 → f.bias ≡ 0 → Numeric f
 
 -- The bits of a float's value, as one number.

@@ -145,7 +145,7 @@ module _ (t s : List ℕ) (r : Judged) where
         count = λ q. absurd (not_0 q);
         shape = λ q. absurd (not_0 q);
         no_count = λ q. rw e;
-        no_shape_lem = λ q. rw e;
+        without_shape = λ q. rw e;
         length_good = λ q. absurd (not_0 q);
         good = λ q. absurd (not_0 q);
         small = rw e (omega arith);
@@ -193,7 +193,7 @@ module _ (t s : List ℕ) (r : Judged) where
               count = λ q. rw e m;
               shape = λ q. rw e (shape_is (code_of t) (parameters_of t) x (good_sda t) g good);
               no_count = λ q. absurd (q (rw e));
-              no_shape_lem = λ q. absurd (q (rw e));
+              without_shape = λ q. absurd (q (rw e));
               length_good = λ q. sym h ∙ f;
               good = λ q. good;
               small = rw e k;

@@ -23,7 +23,7 @@ pub record JudgedSDA (t s : List ℕ) (r : Judged) : Type 0 where
   pub count : r.number ≡ 0 → r.count ≡ product (extents_of t)
   pub shape : r.number ≡ 0 → r.shape ≡ shape_of (code_of t) (parameters_of t)
   pub no_count : r.number ≢ 0 → r.count ≡ 0
-  pub no_shape_lem : r.number ≢ 0 → r.shape ≡ no_shape
+  pub without_shape : r.number ≢ 0 → r.shape ≡ no_shape
   pub length_good : r.number ≡ 0 → good_length_sda t ≡ true
   pub good : r.number ≡ 0 → good_sda t ≡ true
   pub small : r.count ≤ 4096
