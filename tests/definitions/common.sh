@@ -1,11 +1,12 @@
 # What `run` and `mutants` share: a copy of the definitions, and the table of cases in place of the proofs. Sets `root`.
 root=$(cd "$(dirname "${BASH_SOURCE[0]}")/../.." && pwd) || exit 1
 
-# copy_definitions FOLDER: a repository with the crate of the definitions alone.
+# copy_definitions FOLDER: a repository with the crate of the definitions alone. What rt kept there of an earlier copy stays.
 copy_definitions() {
-    mkdir -p "$1/crates" &&
-        cp -r "$root/crates/fdoca" "$1/crates/fdoca" &&
-        rm -rf "$1/crates/fdoca/must-fail" &&
+    local crate=$1/crates/fdoca
+    mkdir -p "$crate" &&
+        rm -rf "$crate"/{src,specs,proofs} &&
+        cp -r "$root"/crates/fdoca/{src,specs,proofs} "$crate" &&
         echo "fdoca:" > "$1/crates.txt"
 }
 
@@ -16,6 +17,9 @@ only_table() {
         printf 'pub mod Everything\npub mod Examples\npub mod Random\n' > "$proofs/Lib.antt" &&
         cat "$root/tests/definitions/prelude.txt" "$2" > "$proofs/Random.antt"
 }
+
+# shown LOG: the first lines of what rt said that tell why a check failed.
+shown() { grep -Ev '^(statements|logic|crate|struct|enum|note:|rt: (chose|[a-z]+: begins)) ?' "$1" | head -n 5 | cut -c 1-200; }
 
 # reader_binary NAME WORDS..: a program of the second reader.
 reader_binary() {

@@ -78,10 +78,10 @@ fn print_cases(
         print_rows(out, &name, "Case", &rows)?;
         writeln!(
             out,
-            "agree-{name} : map answered {name} ≡ map expected {name}"
+            "agree_{name} : map answered {name} ≡ map expected {name}"
         )?;
         writeln!(out, "unfolding {name} answered everything")?;
-        writeln!(out, "agree-{name} = refl\n")?;
+        writeln!(out, "agree_{name} = refl\n")?;
     }
     Ok(())
 }
@@ -99,9 +99,9 @@ fn print_files(out: &mut impl Write, files: &[Vec<u8>]) -> io::Result<()> {
         let rows: Vec<String> = chunk.iter().map(row).collect();
         let name = format!("files{number}");
         print_rows(out, &name, "Printed", &rows)?;
-        writeln!(out, "agree-{name} : map dumped {name} ≡ map text {name}")?;
+        writeln!(out, "agree_{name} : map dumped {name} ≡ map text {name}")?;
         writeln!(out, "unfolding {name} everything")?;
-        writeln!(out, "agree-{name} = refl\n")?;
+        writeln!(out, "agree_{name} = refl\n")?;
     }
     Ok(())
 }

@@ -130,8 +130,8 @@ fn is_bound(tokens: &[Token], place: usize) -> bool {
         let is_second = first == Some(place);
         match tokens[start].text {
             "leb" | "ltb" => is_first || is_second,
-            "take" | "drop" | "upTo" | "digitsUpTo" | "allBelow" => is_first,
-            "getD" => is_second,
+            "take" | "drop" | "up_to" | "digits_up_to" | "all_below" => is_first,
+            "get_or" => is_second,
             _ => false,
         }
     });
@@ -139,7 +139,7 @@ fn is_bound(tokens: &[Token], place: usize) -> bool {
     is_compared || is_argument || is_all
 }
 
-/// Universe levels, and the 0 that `getD` gives past a list's end.
+/// Universe levels, and the 0 that `get_or` gives past a list's end.
 fn is_structural(tokens: &[Token], place: usize) -> bool {
     let before = |distance: usize| {
         place
@@ -149,7 +149,7 @@ fn is_structural(tokens: &[Token], place: usize) -> bool {
     let is_level = before(1) == "Type" || before(1) == "{";
     let is_default = tokens[place].text == "0"
         && (0..place).any(|start| {
-            tokens[start].text == "getD"
+            tokens[start].text == "get_or"
                 && argument(tokens, start + 1)
                     .and_then(|next| argument(tokens, next))
                     .is_some_and(|next| next == place)
@@ -210,21 +210,21 @@ mod tests {
     #[test]
     fn every_rule_changes_one_token() {
         let rows: [(&str, &[&str]); 16] = [
-            ("use lib.Dec.{leb}", &[]),
-            ("infixl 20 _>>=_", &[]),
+            ("use Rattle.std.specs.Prelude.{leb}", &[]),
+            ("infixl 20 ◌>>=◌", &[]),
             ("pub data Sign : Type 0 where -- 7 < 8", &[]),
             ("  plus minus : Sign", &[]),
             ("reject : Result (Unit {0})", &[]),
             (
-                "idOf t = getD (drop 9 t) 2 0",
+                "id_of t = get_or (drop 9 t) 2 0",
                 &[
-                    "idOf t = getD (drop 10 t) 2 0",
-                    "idOf t = getD (drop 8 t) 2 0",
-                    "idOf t = getD (drop 9 t) 3 0",
-                    "idOf t = getD (drop 9 t) 1 0",
+                    "id_of t = get_or (drop 10 t) 2 0",
+                    "id_of t = get_or (drop 8 t) 2 0",
+                    "id_of t = get_or (drop 9 t) 3 0",
+                    "id_of t = get_or (drop 9 t) 1 0",
                 ],
             ),
-            ("f = e .0 ∷ 0x7F ∷ []", &["f = e .0 ∷ 0x80 ∷ []"]),
+            ("f = e.0 ∷ 0x7F ∷ []", &["f = e.0 ∷ 0x80 ∷ []"]),
             ("most = 9", &["most = 10", "most = 8"]),
             (
                 "  case : F ≤ 9 → Has 1",
@@ -257,7 +257,7 @@ mod tests {
                 ],
             ),
             (
-                "f (refuse n p) = refuse n (e .at)",
+                "f (refuse n p) = refuse n e.at",
                 &["f (refuse n p) = refuse n 0"],
             ),
             ("f a = a && true", &["f a = a || true", "f a = a && false"]),

@@ -11,7 +11,7 @@
 //! The rules, for code only (no comments, no `use` and no fixity lines):
 //!
 //! - a numeral, one more, and for bounds and byte places one less too; left out are
-//!   universe levels and the 0 that `getD` gives past a list's end
+//!   universe levels and the 0 that `get_or` gives past a list's end
 //! - `leb` and `ltb`, `<` and `≤`, `≡` and `≢`, `&&` and `||`, each for the other;
 //!   `eqb` denied; `not` left out
 //! - a constructor without arguments (`true` and `false` too) on the right side, the
@@ -220,7 +220,7 @@ fn by_rules(sources: &[Source]) -> Vec<Mutant> {
 impl Source {
     /// Whether the file uses a name anywhere.
     fn has(&self, name: &str) -> bool {
-        let operator = format!("_{name}_");
+        let operator = format!("◌{name}◌");
         self.lines.iter().any(|line| {
             tokens(line)
                 .iter()

@@ -58,18 +58,14 @@ impl Names {
 
     /// The line that brings a name into a file.
     pub(crate) fn use_line(&self, name: &str, into: &str) -> Option<String> {
-        let (module, name) = match name {
-            "leb" | "ltb" => ("lib.Dec", name.to_string()),
-            "not" | "true" | "false" => ("mathlib.Core.Bool", name.to_string()),
-            "&&" | "||" => ("mathlib.Core.Bool", format!("_{name}_")),
-            "<" | "≤" => ("Prim.Native.Nat", format!("_{name}_")),
-            "≡" => ("mathlib.Core.Path", format!("_{name}_")),
-            "≢" => ("mathlib.Core.Logic", format!("_{name}_")),
+        let name = match name {
+            "leb" | "ltb" | "not" | "true" | "false" => name.to_string(),
+            "&&" | "||" | "<" | "≤" | "≡" | "≢" => format!("◌{name}◌"),
             _ => {
                 let file = self.file.get(name).filter(|&file| file != into)?;
-                return Some(format!("use Rattle·fdoca·specs.specs.{file}.{{{name}}}"));
+                return Some(format!("use Rattle.fdoca.specs.{file}.{{{name}}}"));
             }
         };
-        Some(format!("use {module}.{{{name}}}"))
+        Some(format!("use Rattle.std.specs.Prelude.{{{name}}}"))
     }
 }
