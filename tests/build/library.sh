@@ -2,12 +2,12 @@
 
 archive=$repo/target/staticlib/libpanel.a
 has() { [ "$(cat "$archive")" = "$1" ]; }
-both=$'check panel\nstaticlib panel'
+both=$'version\nlib panel'
 
 run "$repo/tools/build" panel
 holds 'first archive' has 'archive 1'
 run "$repo/tools/build" panel
-holds 'the archive is made once' quiet 'check panel'
+holds 'the archive is made once' quiet version
 source_of panel 'archive 2'
 run "$repo/tools/build" panel
 holds 'an archive older than its source' has 'archive 2'
@@ -18,9 +18,12 @@ rm "$archive"
 run "$repo/tools/build" panel
 holds 'an archive that is gone' has 'archive 2'
 echo old >"$archive"
-rm "$repo/target/staticlib/panel.stamp"
+rm "$repo/target/stamp/panel"
 run "$repo/tools/build" panel
 holds 'an archive of unknown sources' has 'archive 2'
+echo other >"$archive"
+run "$repo/tools/build" panel
+holds 'an archive that something changed' has 'archive 2'
 source_of panel 'archive 3'
 touch "$repo/no-archive"
 run "$repo/tools/build" panel
@@ -39,7 +42,7 @@ run examples
 holds 'the examples, at first' panel_has 'archive 3'
 run examples
 holds 'the examples, nothing changed' gave 0 ''
-holds 'the examples, quick' quiet 'check panel'
+holds 'the examples, quick' quiet version
 source_of panel 'archive 4'
 run examples
 holds 'the examples, a source changed' panel_has 'archive 4'
@@ -54,7 +57,7 @@ source_of panel 'archive 5'
 run bench
 holds 'the benchmark, a source changed' gave 1 'archive 5'
 run bench
-holds 'the benchmark, nothing changed' called 'check panel'
+holds 'the benchmark, nothing changed' called version
 run "$repo/bench/run" "$work/nowhere"
 holds 'the benchmark, no such tree beside' gave 2 ''
 holds 'the benchmark, no such tree, nothing called' called ''
