@@ -59,6 +59,11 @@ holds 'one waits' says 'build: waiting for another build to end'
 holds 'they never meet' [ ! -e "$repo/target/met" ]
 run sh -c "for n in 1 2 3 4 5 6 7 8 9 10; do $repo/tools/build dump || exit; done"
 holds 'a build right behind another waits for nothing' said ''
+source_of dump 'items 5 bytes 0'
+run env RT_WAITS=yes "$repo/dump" "$work/file"
+holds 'what rt waits for' said "build: waiting for another rt to finish in crates/dump
+$first
+build: proving dump (1 of 2 crates left)"
 echo 'five' >"$repo/edit-base"
 source_of base 'six'
 run "$repo/tools/build" dump
