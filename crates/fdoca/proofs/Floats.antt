@@ -187,7 +187,7 @@ only_canonical n x f h =
     let v = from_equal x n h in
     unique x (canonical n) n.negative (n.m * up n.e) (down n.e) (down_above n.e) (fits_written x _ _ _ f v) (canonical_written n) v (canonical_worth n)
 
--- `equalFloat` is the one 64-bit float that equals the number, where there is one.
+-- `equal_float` is the one 64-bit float that equals the number, where there is one.
 pub equal_float_is : (n : Number) (v : Float) → equal_float n ≡ some v → T (fits binary64 v) × Equal v n
 unfolding equal_float
 equal_float_is n v = go (fits binary64 (canonical n)) refl

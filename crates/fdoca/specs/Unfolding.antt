@@ -1,6 +1,6 @@
 -- The unfolding of an accepted descriptor (document 01, "Unfolding and walk"; document 02, Q-4 and Q-5): the list of its fields, made from its bytes,
 -- and the repeated layout of rows to the end.
--- The cases marked * occur in no accepted descriptor: theorem `no-star` of proofs/Stars.
+-- The cases marked * occur in no accepted descriptor: theorem `no_star` of proofs/Stars.
 use Rattle.std.specs.Prelude.{ℕ, zero, suc, ◌-◌, ◌*◌, Bool, true, ◌&&◌, List, [], ◌∷◌, ◌++◌, eqb, length, replicate, get_or, if◌then◌else◌}
 use Rattle.std.proofs.Math.Option.{Option, none, some}
 use Rattle.fdoca.specs.Basics.{lookup, product, repeat}
