@@ -3,6 +3,86 @@
 
 #![tactic(auto)]
 
+ghost use Rattle.std.specs.Prelude.{◌≡◌};
+ghost use Rattle.fdoca.specs.Returned.{number_of, reason_of};
+
+// The reasons of refusals, each as its number in the table of numbers.
+#[derive(Clone, Copy, Debug, PartialEq, Eq)]
+pub enum Reason {
+    Oversize = 1,
+    TornTriplet = 2,
+    UnknownConstruct = 3,
+    OutOfSequence = 4,
+    BadLength = 5,
+    BadParameter = 6,
+    NameTaken = 7,
+    MissingReference = 8,
+    NotCarried = 9,
+    TooManyItems = 10,
+    NothingDescribed = 11,
+    SmallList = 12,
+    ShortData = 13,
+    BadCount = 14,
+    NoEnd = 15,
+    Surplus = 16,
+    NoSuchItem = 17,
+    WrongKind = 18,
+    BadFile = 19,
+    BadDigit = 20,
+    ColumnMisfit = 21,
+    Endless = 22,
+    NoExactFloat = 23,
+    BadIndicator = 24,
+}
+
+impl Reason {
+    // The number that callers in C are given.
+    pub fn number(self) -> u32
+        ensures { result ≡ number_of self }
+    {
+        self as u32
+    }
+}
+
+// The reason of a number. Goes when no function gives a number any more.
+pub fn reason_by(number: u32) -> Reason
+    ensures { result ≡ reason_of number }
+{
+    match number {
+        1 => Reason::Oversize,
+        2 => Reason::TornTriplet,
+        3 => Reason::UnknownConstruct,
+        4 => Reason::OutOfSequence,
+        5 => Reason::BadLength,
+        6 => Reason::BadParameter,
+        7 => Reason::NameTaken,
+        8 => Reason::MissingReference,
+        9 => Reason::NotCarried,
+        10 => Reason::TooManyItems,
+        11 => Reason::NothingDescribed,
+        12 => Reason::SmallList,
+        13 => Reason::ShortData,
+        14 => Reason::BadCount,
+        15 => Reason::NoEnd,
+        16 => Reason::Surplus,
+        17 => Reason::NoSuchItem,
+        18 => Reason::WrongKind,
+        19 => Reason::BadFile,
+        20 => Reason::BadDigit,
+        21 => Reason::ColumnMisfit,
+        22 => Reason::Endless,
+        23 => Reason::NoExactFloat,
+        _ => Reason::BadIndicator,
+    }
+}
+
+// A refusal: its reason, and its place in the descriptor or the data.
+#[derive(Clone, Copy, Debug, PartialEq, Eq)]
+pub struct Refusal {
+    pub reason: Reason,
+    pub place: u32,
+}
+
 // The check of a descriptor: how many items it describes.
 #[derive(Drop)]
 pub struct Checked {
