@@ -5,14 +5,13 @@ use mathlib.Core.Logic.{◌≢◌, ◌⊎◌, inl, inr}
 use Prim.Native.Nat.{ℕ, ◌+◌, ◌-◌, ◌≤◌, ◌<◌}
 use native.Mathlib.Omega.{arith}
 use native.Mathlib.Nat.{add-sub_cancel_left}
-use mathlib.Core.Bool.{Bool, true, false, true≢false}
+use mathlib.Core.Bool.{Bool, true, false, ◌||◌, true≢false}
 use mathlib.Core.List.{List}
 use lib.Dec.{eqb}
 use mathlib.Core.Option.{none}
 use lib.ListN.{length, get_or, take, drop}
 use lib.Seq.{get_or-take, get_or-drop}
 use borrow.Author.Tests.{ne_eqb, eqb-true, eqb-false}
-use Rattle.fdoca.proofs.Tests.{by_test}
 use Rattle.fdoca.specs.Triplet.{construct_of}
 use Rattle.fdoca.specs.Unfolding.{closed}
 use Rattle.fdoca.specs.Between.{entries}
@@ -25,13 +24,19 @@ use Rattle.descriptors.proofs.Moving.{sda_moved, row_moved, cpt_moved, isd_moved
 -- an RLO's construct type or a GDA's, and another one
 grouped : (k : ℕ) → with_groups k ≡ true → (k ≡ 0x71) ⊎ (k ≡ 0x75)
 unfolding with_groups
-grouped k = by_test (λ b. b ≡ true → (k ≡ 0x71) ⊎ (k ≡ 0x75)) (eqb k 0x71) (λ t h. inl (eqb-true k 0x71 t)) (λ t h. inr (eqb-true k 0x75 h))
+grouped k = go (eqb k 0x71) refl
+  where
+    go : (b : Bool) → eqb k 0x71 ≡ b → (b || eqb k 0x75) ≡ true → (k ≡ 0x71) ⊎ (k ≡ 0x75)
+    go true t h = inl (eqb-true k 0x71 t)
+    go false t h = inr (eqb-true k 0x75 h)
 
 not_grouped : (k : ℕ) → with_groups k ≡ false → (k ≡ 0x71 → ⊥) × (k ≡ 0x75 → ⊥)
 unfolding with_groups
-not_grouped k =
-    by_test (λ b. b ≡ false → (k ≡ 0x71 → ⊥) × (k ≡ 0x75 → ⊥)) (eqb k 0x71) (λ t h. absurd (true≢false h))
-    (λ t h. (eqb-false k 0x71 t, eqb-false k 0x75 h))
+not_grouped k = go (eqb k 0x71) refl
+  where
+    go : (b : Bool) → eqb k 0x71 ≡ b → (b || eqb k 0x75) ≡ false → (k ≡ 0x71 → ⊥) × (k ≡ 0x75 → ⊥)
+    go true t h = absurd (true≢false h)
+    go false t h = (eqb-false k 0x71 t, eqb-false k 0x75 h)
 
 pub held_agree : (d s z e : List ℕ) (p : ℕ) (x : Step) → Held d s z e p x → Agreeing s z e
 held_agree d s z e p x held = record { described_ids = entries held.0.described; agrees = held.1.tables.agrees }

@@ -1,12 +1,12 @@
 -- The check from the first triplet to the last, and what an accepted descriptor leaves in the tables.
 -- Assumes nothing.
 use Rattle.std.specs.Prelude.{if◌then◌else◌}
-use mathlib.Core.Path.{◌≡◌, refl, sym, ap, ◌∙◌}
+use mathlib.Core.Path.{◌≡◌, refl, sym, ap, ◌∙◌, subst}
 use mathlib.Core.Logic.{◌≢◌}
 use Prim.Native.Nat.{ℕ, ◌+◌, ◌-◌, ◌≤◌, ◌<◌}
 use native.Mathlib.Omega.{arith}
 use native.Mathlib.Nat.{sub-zero}
-use mathlib.Core.Bool.{Bool, true, false, ◌&&◌, true≢false}
+use mathlib.Core.Bool.{Bool, true, false, not, ◌&&◌, true≢false}
 use mathlib.Core.List.{List, [], ◌∷◌}
 use mathlib.Core.Option.{Option, none, some}
 use lib.Dec.{eqb}
@@ -14,6 +14,11 @@ use lib.ListN.{length, get_or, take, drop, replicate, length-replicate, get_or-r
 use mir.Syntax.{w64}
 use mir.Val.{Fits}
 use borrow.Author.Tests.{lt-ltb, le-ltb, eq-eqb, ne_eqb}
+use Rattle.std.specs.Prelude.{Result, Ok, Err}
+use Rattle.fdoca.specs.declared.Reason.{Reason}
+use Rattle.fdoca.specs.declared.Reason.TheVariants.{Oversize, NothingDescribed, Endless}
+use Rattle.fdoca.specs.declared.Refusal.{Refusal}
+use Rattle.fdoca.specs.Returned.{reason_of}
 use Rattle.fdoca.specs.Basics.{is_some, lookup, refuse, ok, ◌>>=◌, ◌>>◌, reject}
 use Rattle.fdoca.specs.Triplet.{triplet, triplets, last_place, Kind, rlo, gda, Group, taken}
 use Rattle.fdoca.specs.Item.{Field}
@@ -36,10 +41,14 @@ use Rattle.descriptors.specs.Holds.{RefersIn, RowIn, KeptIn, Tables, no_head, Cu
 use Rattle.descriptors.proofs.Rows.{groups_map}
 use Rattle.descriptors.proofs.Refs.{takes_of}
 
-pub oversized : (d s z e : List ℕ) (r : Examined) (most : ℕ) → 4096 ≤ most → most < length d → r ≡ record { number = 1; place = 0; items = 0; id = 0; rows = false } → Examination d s z e r
-unfolding check
-oversized d s z e r most m h q =
-    record { result = rw (q, lt-ltb 4096 (length d) (omega arith)); ready = λ k. absurd (let w : 1 ≡ 0 = rw q at k in let y : ⊥ = omega arith in y) }
+-- a refusal is no accepted descriptor
+none_accepted : {P : Type 0} (w : Refusal) (x : Examined) → ◌≡◌ {A = Result Examined Refusal} (Err w) (Ok x) → P
+none_accepted w x q = absurd (let y : ⊥ = cc in y)
+
+pub oversized : (d s z e : List ℕ) (w : Refusal) (most : ℕ) → 4096 ≤ most → most < length d → w ≡ record { reason = Oversize; place = 0 } → Examination d s z e (Err w)
+unfolding check reason_of
+oversized d s z e w most m h q =
+    record { result = rw (q, lt-ltb 4096 (length d) (omega arith)); ready = λ x k. none_accepted w x k }
 
 -- before the first triplet
 pub at_first : (d s z e : List ℕ) (x : Step) → s ≡ replicate 256 65535 → z ≡ replicate 256 0 → e ≡ replicate 256 0 → Bare 0 x → Held d s z e 0 x
@@ -63,20 +72,6 @@ at_first d s z e x es ez ee b =
   where
     long : (v : ℕ) → length (replicate 256 v) ≡ 256
     long v = length-replicate 256 v
-
--- the tests of rows to the end
-module _ (head last : ℕ) (r : Bool) where
-  pub no_row : r ≡ false → head ≡ 0 → r ≡ to_the_end head last
-  unfolding to_the_end
-  no_row o e = rw (e, o)
-
-  pub no_rlo : r ≡ false → (head ≡ 0 → ⊥) → head ≡ 0x75 → r ≡ to_the_end head last
-  unfolding to_the_end
-  no_rlo o h e = rw (e, o)
-
-  pub by_last : (head ≡ 0 → ⊥) → (head ≡ 0x75 → ⊥) → r ≡ eqb last 0 → r ≡ to_the_end head last
-  unfolding to_the_end
-  by_last h k o = rw (ne_eqb head 0 h, ne_eqb head 0x75 k, o)
 
 module _ (d s e : List ℕ) (head : ℕ) (b : Bool) (w : Repeating d s e head) (eb : b ≡ to_the_end head (last_byte d)) where
   pub not_repeating : (r : Bool) → b ≡ false → r ≡ false → r ≡ (to_the_end head (last_byte d) && endless (pass_list d (length d - 3)))
@@ -128,10 +123,10 @@ module _ (d s z e : List ℕ) (p : ℕ) (x : Step) where
     pub next_less : (n : ℕ) → x.number ≡ 0 → n ≡ get_or d p 0 → p < length d → length d - (p + n) < length d - p
     next_less n q en k = let m : 2 ≤ get_or d p 0 = a.moves q in omega arith
 
-    pub stopped : (r : Examined) → length d ≤ 4096 → (x.number ≡ 0 → ⊥) → r ≡ record { number = x.number; place = p; items = 0; id = 0; rows = false } → Examination d s z e r
+    pub stopped : (w : Refusal) (m : ℕ) (g : Reason) → length d ≤ 4096 → (x.number ≡ 0 → ⊥) → m ≡ x.number → g ≡ reason_of m → w ≡ record { reason = g; place = p } → Examination d s z e (Err w)
     unfolding check
-    stopped r small h q =
-        record { result = rw (q, le-ltb 4096 (length d) small, a.refuses h); ready = λ k. absurd (h (ap (λ (w : Examined). w.number) (sym q) ∙ k)) }
+    stopped w m g small h em eg q =
+        record { result = rw (q, eg, em, le-ltb 4096 (length d) small, a.refuses h); ready = λ x k. none_accepted w x k }
 
   -- behind the last triplet
   module _ (held : Held d s z e p x) (all : length d ≤ p) (small : length d ≤ 4096) where
@@ -157,12 +152,13 @@ module _ (d s z e : List ℕ) (p : ℕ) (x : Step) where
     unfolding described_by
     all_described = rw unfolded_all
 
-    pub nothing : (r : Examined) → x.id ≡ 0 → r ≡ record { number = 11; place = p; items = 0; id = 0; rows = false } → Examination d s z e r
-    nothing r z₀ q =
-        record { result = rw (q, the_check) (go (closed u) h.last); ready = λ k. absurd (let w : 11 ≡ 0 = rw q at k in let y : ⊥ = omega arith in y) }
+    pub nothing : (w : Refusal) → x.id ≡ 0 → w ≡ record { reason = NothingDescribed; place = p } → Examination d s z e (Err w)
+    unfolding reason_of
+    nothing w z₀ q =
+        record { result = rw (q, the_check) (go (closed u) h.last); ready = λ x k. none_accepted w x k }
       where
         go : (ds : List (ℕ × Described)) → Last x ds
-            → record { number = 11; place = p; items = 0; id = 0; rows = false }
+            → Err (record { reason = NothingDescribed; place = p })
             ≡ examined (last_count (length d) (entries ds) >>= (λ n. reject (is_endless (repeated d)) 22 (last_place (triplets d)) >> ok n)) (described_by d) (repeated d)
         go [] l = let m : p ≡ length d = omega (arith, h.there) in rw m
         go (c ∷ ds) l = absurd (l.1 z₀)
@@ -226,7 +222,7 @@ module _ (d s z e : List ℕ) (p : ℕ) (x : Step) where
           by_factor true l = refl
           by_factor false l = refl
 
-          go : (b : Bool) → eqb x.head 0x75 ≡ b → (if b then false else eqb (last_byte d) 0) ≡ is_some (rows_of (if b then gda else rlo) u.described (last_group d))
+          go : (b : Bool) → eqb x.head 0x75 ≡ b → (not b && eqb (last_byte d) 0) ≡ is_some (rows_of (if b then gda else rlo) u.described (last_group d))
           go true e = refl
           go false e = by_factor (eqb (last_byte d) 0) _
 
@@ -338,17 +334,18 @@ module _ (d s z e : List ℕ) (p : ℕ) (x : Step) where
               none_is none e k = rw e
               none_is (some rows) e k = absurd (true≢false k)
 
-      pub endless_end : (q : ℕ) (r : Examined) (b : Bool) → LastAt d q p → (x.id ≡ 0 → ⊥)
+      pub endless_end : (q : ℕ) (w : Refusal) (b : Bool) → LastAt d q p → (x.id ≡ 0 → ⊥)
           → b ≡ (to_the_end x.head (last_byte d) && endless (pass_list d (length d - 3))) → b ≡ true
-          → r ≡ record { number = 22; place = q; items = 0; id = 0; rows = false } → Examination d s' z' e' r
-      endless_end q r b l k eb t er =
+          → w ≡ record { reason = Endless; place = q } → Examination d s' z' e' (Err w)
+      unfolding reason_of
+      endless_end q w b l k eb t ew =
           let c : check d ≡ refuse 22 q = checks_on k true (endless_is ∙ sym eb ∙ t) ∙ ap (refuse 22) (last_end d q p l (some_bytes k) all) in
-          record { result = rw (er, c); ready = λ n. absurd (let w : 22 ≡ 0 = rw er at n in let y : ⊥ = omega arith in y) }
+          record { result = rw (ew, c); ready = λ x n. none_accepted w x n }
 
-      pub finished : (r : Examined) (b rows : Bool) → (x.id ≡ 0 → ⊥) → b ≡ (to_the_end x.head (last_byte d) && endless (pass_list d (length d - 3))) → b ≡ false
-          → rows ≡ to_the_end x.head (last_byte d) → r ≡ record { number = 0; place = 0; items = x.count; id = x.id; rows = rows } → Examination d s' z' e' r
+      pub finished : (b rows : Bool) → (x.id ≡ 0 → ⊥) → b ≡ (to_the_end x.head (last_byte d) && endless (pass_list d (length d - 3))) → b ≡ false
+          → rows ≡ to_the_end x.head (last_byte d) → Examination d s' z' e' (Ok (record { items = x.count; id = x.id; rows = rows }))
       unfolding list_of unfolded
-      finished r b rows k eb t er q =
+      finished b rows k eb t er =
           let w : LastOf = last_of k in
           let eu : unfolded d ≡ fields_of w.what = rw unfolded_all w.unfolds_to in
           let ac : check d ≡ ok x.count = checks_on k false (endless_is ∙ sym eb ∙ t) in
@@ -365,8 +362,11 @@ module _ (d s z e : List ℕ) (p : ℕ) (x : Step) where
             pass = λ n. last_pass (sym er ∙ n);
             room = λ n. pass_room (sym er ∙ n);
           } in
-          record { result = rw (q, ac, all_described, ← w.id_is, er, rows_told); ready = λ n. rw q rd }
+          record { result = rw (ac, all_described, ← w.id_is, er, rows_told); ready = λ y n. ready_of y n rd }
         where
+          ready_of : (y : Examined) → ◌≡◌ {A = Result Examined Refusal} (Ok (record { items = x.count; id = x.id; rows = rows })) (Ok y) → Ready d s' z' e' x.id x.count rows → Ready d s' z' e' y.id y.items y.rows
+          ready_of y n rd = let f : ◌≡◌ {A = Examined} (record { items = x.count; id = x.id; rows = rows }) y = cc in subst (λ (v : Examined). Ready d s' z' e' v.id v.items v.rows) f rd
+
           none_there : (o : Option (List Field)) → is_some o ≡ false → o ≡ none
           none_there none n = refl
           none_there (some l) n = absurd (true≢false n)

@@ -1,7 +1,10 @@
 -- What the check knows before each triplet, and of an accepted descriptor in the end.
-use Rattle.std.specs.Prelude.{ℕ, ◌+◌, ◌-◌, ◌≤◌, ◌<◌, ◌≡◌, ◌≢◌, Bool, true, false, List, [], ◌∷◌, ◌++◌, length, get_or, drop, eqb, if◌then◌else◌}
+use Rattle.std.specs.Prelude.{ℕ, ◌+◌, ◌-◌, ◌≤◌, ◌<◌, ◌≡◌, ◌≢◌, Bool, true, false, ◌&&◌, ◌||◌, not, List, [], ◌∷◌, ◌++◌, length, get_or, drop, eqb, Result, Ok, Err}
 use Rattle.std.proofs.Math.Option.{Option, none, some}
-use Rattle.fdoca.specs.Basics.{is_some, product, lookup, Result, refuse, ok}
+use Rattle.fdoca.specs.declared.Refusal.{Refusal}
+use Rattle.fdoca.specs.Basics.{is_some, product, lookup, refuse, ok}
+use Rattle.fdoca.specs.Basics as defined
+use Rattle.fdoca.specs.Returned.{reason_of}
 use Rattle.fdoca.specs.Triplet.{triplets, last_place, Kind, Group, id_of, code_of, extents_of}
 use Rattle.fdoca.specs.Item.{Field}
 use Rattle.fdoca.specs.Check.{Entry, good_sda, check_sda, check_row, check_cpt, check_triplets, begin, check}
@@ -18,7 +21,7 @@ use Rattle.descriptors.specs.declared.Examined.{Examined}
 
 -- The construct type of an RLO or a GDA.
 unfoldable pub with_groups : (type : ℕ) → Bool
-with_groups type = if eqb type 0x71 then true else eqb type 0x75
+with_groups type = eqb type 0x71 || eqb type 0x75
 
 -- A group of a row at p refers to one of the described ids ds, whose triplet stands before p.
 pub record RefersIn (kind : Kind) (s : List ℕ) (ds : List (ℕ × Described)) (p : ℕ) (g : Group) : Type 0 where
@@ -159,7 +162,7 @@ pub data LastAt (d : List ℕ) (q p : ℕ) : Type 0 where
 
 -- Rows to the end: the row at hand is an RLO's, and the last byte, which is the last group's repetition, 0.
 unfoldable pub to_the_end : (head last : ℕ) → Bool
-to_the_end head last = if eqb head 0 then false else if eqb head 0x75 then false else eqb last 0
+to_the_end head last = not (eqb head 0) && not (eqb head 0x75) && eqb last 0
 
 abbrev pub last_byte : List ℕ → ℕ
 last_byte d = get_or d (length d - 1) 0
@@ -189,13 +192,13 @@ abbrev pub last_id : List (ℕ × Described) → ℕ
 last_id [] = 0
 last_id (r ∷ ds) = r.0
 
--- The check's answer, and for an accepted descriptor the id that describes the block, the last one, and whether it has rows to the end. A refusal has the
--- id 0.
-abbrev pub examined : Result ℕ → List (ℕ × Described) → Option (List Field) → Examined
-examined (refuse n p) ds o = record { number = n; place = p; items = 0; id = 0; rows = false }
-examined (ok n) ds o = record { number = 0; place = 0; items = n; id = last_id ds; rows = is_some o }
+-- What examining a descriptor gives, by the check's answer: for an accepted one the id that describes the block, the last one, and whether it has rows
+-- to the end.
+abbrev pub examined : defined.Result ℕ → List (ℕ × Described) → Option (List Field) → Result Examined Refusal
+examined (refuse n p) ds o = Err (record { reason = reason_of n; place = p })
+examined (ok n) ds o = Ok (record { items = n; id = last_id ds; rows = is_some o })
 
 -- What examining a descriptor gives, with the tables afterwards; on a refusal nothing is said of the tables.
-pub record Examination (d s z e : List ℕ) (r : Examined) : Type 0 where
+pub record Examination (d s z e : List ℕ) (r : Result Examined Refusal) : Type 0 where
   pub result : r ≡ examined (check d) (described_by d) (repeated d)
-  pub ready : r.number ≡ 0 → Ready d s z e r.id r.items r.rows
+  pub ready : (x : Examined) → r ≡ Ok x → Ready d s z e x.id x.items x.rows

@@ -6,11 +6,11 @@ ghost use Rattle.std.specs.Prelude.{◌≡◌, ◌+◌, ◌-◌, ◌≤◌, ◌<
 ghost use Rattle.fdoca.specs.Check.{check};
 ghost use Rattle.fdoca.specs.Unfolding.{endless};
 ghost use Rattle.rows.specs.Pass.{pass_list};
-ghost use Rattle.fdoca.specs.Calls.{checked};
+ghost use Rattle.fdoca.specs.Returned.{returned};
 ghost use Rattle.sdas.specs.Tables.{Agreeing};
 ghost use Rattle.descriptors.specs.Holds.{with_groups, MakesSame, Held, ClosedRow, SteppedSDA, SteppedRow, SteppedCPT, Advanced, Bare, to_the_end, last_byte, Repeating, Examination};
 
-use fdoca::Checked;
+use fdoca::{Reason, Refusal};
 use plans::GDA;
 use triplets::RLO;
 
@@ -25,11 +25,9 @@ pub struct Step {
     pub count: usize,
 }
 
-// What examining a descriptor gives: the check's answer, the id of the triplet that describes the block, and whether it has rows to the end.
+// An accepted descriptor: how many items it describes, the id of the triplet that describes the block, and whether it has rows to the end.
 #[derive(Clone, Copy)]
 pub struct Examined {
-    pub number: u32,
-    pub place: u32,
     pub items: u32,
     pub id: u8,
     pub rows: bool,
@@ -68,7 +66,7 @@ fn row_place(desc: &[u8], starts: &[u16; 256], entries: &[u64; 256], at: usize, 
     if desc[at + 5] != 1 {
         return own;
     }
-    let id = numbers::wide(desc[at + 3]);
+    let id = usize::from(desc[at + 3]);
     if entries[id] != 0 {
         return own;
     }
@@ -91,7 +89,7 @@ fn close(
         return;
     }
     let place = row_place(desc, starts, entries, x.at, p);
-    let id = numbers::wide(x.id);
+    let id = usize::from(x.id);
     starts[id] = place;
     sizes[id] = x.count as u32;
     entries[id] = 0;
@@ -175,13 +173,11 @@ fn cpt_step(
 }
 
 // Whether a construct type is that of an RLO or a GDA.
+#[tactic(auto, using(fdoca::proofs::Tests::tests), unfolding(crate::specs::Holds::with_groups))]
 fn has_groups(kind: u8) -> bool
     ensures { result ≡ with_groups kind }
 {
-    if kind == RLO {
-        return true;
-    }
-    kind == GDA
+    kind == RLO || kind == GDA
 }
 
 // The step over the triplet at p, x being the step before.
@@ -196,7 +192,7 @@ fn advance(
     requires { Held desc.now starts.old sizes.old entries.old p x × (p < length desc.now) × (length desc.now ≤ 4096) }
     ensures { Advanced desc.now starts.new sizes.new entries.new p result }
 {
-    let n = numbers::wide(desc[p]);
+    let n = usize::from(desc[p]);
     if n < 2 {
         return bare(2);
     }
@@ -222,31 +218,25 @@ fn advance(
     bare(3)
 }
 
-fn answer(number: u32, place: u32, items: u32, id: u8, rows: bool) -> Examined
-    ensures { result ≡ record { number = number; place = place; items = items; id = id; rows = rows } }
+// A refusal at a place of the descriptor.
+fn refusal(reason: Reason, place: usize) -> Refusal
+    requires { place < 4294967296 }
+    ensures { result ≡ record { reason = reason; place = place } }
 {
-    Examined {
-        number: number,
-        place: place,
-        items: items,
-        id: id,
-        rows: rows,
+    Refusal {
+        reason,
+        place: place as u32,
     }
 }
 
 // Whether a descriptor has rows to the end (document 02, Q-5): its last group, of an RLO, has repetition 0. `head` is the construct type of the row
 // that its last triplet belongs to, or 0.
+#[tactic(auto, using(fdoca::proofs::Tests::tests), unfolding(crate::specs::Holds::to_the_end))]
 fn to_the_end(desc: &[u8], head: u8) -> bool
     requires { 0 < length desc.now }
     ensures { result ≡ to_the_end head (last_byte desc.now) }
 {
-    if head == 0 {
-        return false;
-    }
-    if head == GDA {
-        return false;
-    }
-    desc[desc.len() - 1] == 0
+    head != 0 && head != GDA && desc[desc.len() - 1] == 0
 }
 
 // Whether there are rows to the end, and these take no data.
@@ -254,10 +244,7 @@ fn takes_nothing(desc: &[u8], starts: &[u16; 256], entries: &[u64; 256], head: u
     requires { Repeating desc.now starts.now entries.now head }
     ensures { result ≡ (to_the_end head (last_byte desc.now) && endless (pass_list desc.now (length desc.now - 3))) }
 {
-    if !to_the_end(desc, head) {
-        return false;
-    }
-    rows::endless(desc, starts, entries, desc.len() - 3)
+    to_the_end(desc, head) && rows::endless(desc, starts, entries, desc.len() - 3)
 }
 
 // Examines a descriptor: the check's answer; for an accepted one the tables are then filled for whoever writes its plan. q is the place of the
@@ -267,12 +254,12 @@ pub fn examine(
     starts: &mut [u16; 256],
     sizes: &mut [u32; 256],
     entries: &mut [u64; 256],
-) -> Examined
+) -> Result<Examined, Refusal>
     requires { (starts.old ≡ replicate 256 65535) × (sizes.old ≡ replicate 256 0) × (entries.old ≡ replicate 256 0) }
     ensures { Examination desc.now starts.new sizes.new entries.new result }
 {
     if 4096 < desc.len() {
-        return answer(1, 0, 0, 0, false);
+        return Err(refusal(Reason::Oversize, 0));
     }
     let mut q = 0;
     let mut p = 0;
@@ -280,33 +267,33 @@ pub fn examine(
     while p < desc.len() {
         x = advance(desc, starts, sizes, entries, p, x);
         if x.number != 0 {
-            return answer(x.number as u32, p as u32, 0, 0, false);
+            return Err(refusal(fdoca::reason_by(u32::from(x.number)), p));
         }
         q = p;
-        p += numbers::wide(desc[p]);
+        p += usize::from(desc[p]);
     }
     if x.id == 0 {
-        return answer(11, p as u32, 0, 0, false);
+        return Err(refusal(Reason::NothingDescribed, p));
     }
     close(desc, starts, sizes, entries, p, x);
     if takes_nothing(desc, starts, entries, x.head) {
-        return answer(22, q as u32, 0, 0, false);
+        return Err(refusal(Reason::Endless, q));
     }
     let rows = to_the_end(desc, x.head);
-    answer(0, 0, x.count as u32, x.id, rows)
+    Ok(Examined {
+        items: x.count as u32,
+        id: x.id,
+        rows,
+    })
 }
 
 // Checks a descriptor: how many items it describes, or the first reason to refuse it.
-pub fn check(descriptor: &[u8]) -> Checked
-    ensures { result ≡ checked (check descriptor.now) }
+pub fn check(descriptor: &[u8]) -> Result<u32, Refusal>
+    ensures { result ≡ returned (check descriptor.now) }
 {
     let mut starts = [sdas::NOWHERE; 256];
     let mut sizes = [0u32; 256];
     let mut entries = [0u64; 256];
-    let r = examine(descriptor, &mut starts, &mut sizes, &mut entries);
-    Checked {
-        number: r.number,
-        place: r.place,
-        items: r.items,
-    }
+    let examined = examine(descriptor, &mut starts, &mut sizes, &mut entries)?;
+    Ok(examined.items)
 }

@@ -24,7 +24,7 @@ row_step-requires c =
     let b = c in
     let a = b in
     let pre = a.requires in
-    tables_agree _ _ _ _ _ _ _ _ pre.0 pre.1 a.wide-n.ensures.0 a.if-n-lt2.false a.if-desc-p.false refl _ _ _ c.close.ensures b.if-kind-eq-CPT.false
+    tables_agree _ _ _ _ _ _ _ _ pre.0 pre.1 a.from-n.ensures a.if-n-lt2.false a.if-desc-p.false refl _ _ _ c.close.ensures b.if-kind-eq-CPT.false
 
 pub returns-then-has_groups : goal.returns-then-has_groups
 returns-then-has_groups c = search (over_row)
