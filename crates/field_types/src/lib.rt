@@ -4,219 +4,173 @@
 #![tactic(auto)]
 
 ghost use Rattle.std.specs.Prelude.{◌≡◌, length};
-ghost use Rattle.fdoca.specs.FieldType.{plain, type_of};
+ghost use Rattle.fdoca.specs.FieldType.{plain, type_of, allows, length_that_holds, digits_up_to, digits};
 ghost use Rattle.fdoca.specs.Check.{good_column};
-ghost use Rattle.field_types.specs.Rows.{encoded, rule_at};
-ghost use Rattle.field_types.specs.Parameters.{unused_zero, size_held, length_allowed, digits_allowed, size_allowed, rule_allows, good_eight, in_digits, no_shape, shape_if};
+ghost use Rattle.field_types.specs.Layouts.{number_of, numbered};
+ghost use Rattle.field_types.specs.Rows.{type_at, sizes_of, given, StandsFor};
+ghost use Rattle.field_types.specs.Parameters.{unused_zero, allows_number, rule_allows, good_eight, in_digits, shape_if};
 
-use numbers::{pair, wide};
-
-// A number that no field length is, since two bytes do not hold it.
-const NO_SIZE: usize = 65536;
-
-// The number that stands for the layout of a packed decimal, whose size is in digits.
-pub const DIGITS: u8 = 4;
+use numbers::pair;
 
 // The plain code of a packed decimal.
 const PACKED: u8 = 0x30;
 
-// A number that no layout has.
-pub const NO_LAYOUT: u8 = 255;
+// Where a value ends: after all bytes of its size, after as many as a length field of one byte or of two says, or before a zero byte; and that of
+// a packed decimal, which is fixed too, with its size in digits.
+#[derive(Clone, Copy, PartialEq, Eq)]
+pub enum Layout {
+    Fixed,
+    Short,
+    Long,
+    Terminated,
+    Digits,
+}
 
-// What an SDA's type and parameters say of its items: the layout's number, DIGITS of a packed decimal; and the two bytes of the size that
-// holds, as one number.
+impl Layout {
+    // Its number.
+    pub fn number(self) -> u64
+        ensures { result ≡ number_of self }
+    {
+        self as u64
+    }
+
+    // The layout of a number; of one over 3 that of a packed decimal.
+    pub fn of_number(n: u64) -> Layout
+        ensures { result ≡ numbered n }
+    {
+        match n {
+            0 => Layout::Fixed,
+            1 => Layout::Short,
+            2 => Layout::Long,
+            3 => Layout::Terminated,
+            _ => Layout::Digits,
+        }
+    }
+}
+
+// What an SDA's type and parameters say of its items: the layout, and the two bytes of the size that holds, as one number.
 #[derive(Clone, Copy)]
 pub struct Shape {
-    pub layout: u8,
+    pub layout: Layout,
     pub size: usize,
 }
 
-// What a field type allows as its type parameters, and how long its values are.
+// The sizes that a type allows: field lengths, or so many digits at the most.
 #[derive(Clone, Copy)]
-struct Rule {
-    // The field length is below `top`, or is one of three sizes; or there are so many digits at the most, 0 where the size is no digits.
-    top: usize,
-    size1: usize,
-    size2: usize,
-    size3: usize,
-    digits: usize,
-    // What a field length other than 4, 8, 16 means; 0 where the type has no default.
-    default: usize,
-    // The largest mode, and the largest bias indicator.
-    modes: u8,
-    biases: usize,
-    // A value has the field length (0), follows a length field of one or two bytes (1, 2), ends before a zero byte (3), or has digits (4).
-    prefix: u8,
+enum Sizes {
+    UpTo(usize),
+    Two(usize, usize),
+    Three(usize, usize, usize),
+    DigitsUpTo(usize),
 }
 
-// The rules, row by row. Row 0 allows no field length, and so nothing.
-const RULES: [Rule; 11] = [
-    // no field type
-    Rule {
-        top: 0,
-        size1: NO_SIZE,
-        size2: NO_SIZE,
-        size3: NO_SIZE,
-        digits: 0,
-        default: 0,
-        modes: 0,
-        biases: 0,
-        prefix: 0,
-    },
-    // X'01'
-    Rule {
-        top: 32768,
-        size1: NO_SIZE,
-        size2: NO_SIZE,
-        size3: NO_SIZE,
-        digits: 0,
-        default: 0,
-        modes: 0,
-        biases: 0,
-        prefix: 0,
-    },
-    // X'02'
-    Rule {
-        top: 32768,
-        size1: NO_SIZE,
-        size2: NO_SIZE,
-        size3: NO_SIZE,
-        digits: 0,
-        default: 0,
-        modes: 1,
-        biases: 0,
-        prefix: 2,
-    },
-    // X'03'
-    Rule {
-        top: 32768,
-        size1: NO_SIZE,
-        size2: NO_SIZE,
-        size3: NO_SIZE,
-        digits: 0,
-        default: 0,
-        modes: 1,
-        biases: 0,
-        prefix: 3,
-    },
-    // X'07'
-    Rule {
-        top: 256,
-        size1: NO_SIZE,
-        size2: NO_SIZE,
-        size3: NO_SIZE,
-        digits: 0,
-        default: 0,
-        modes: 1,
-        biases: 0,
-        prefix: 1,
-    },
-    // X'23'
-    Rule {
-        top: 0,
-        size1: 2,
-        size2: 4,
-        size3: 8,
-        digits: 0,
-        default: 0,
-        modes: 0,
-        biases: 0,
-        prefix: 0,
-    },
-    // X'24'
-    Rule {
-        top: 0,
-        size1: 2,
-        size2: 4,
-        size3: 8,
-        digits: 0,
-        default: 0,
-        modes: 0,
-        biases: 0,
-        prefix: 0,
-    },
-    // X'30'
-    Rule {
-        top: 0,
-        size1: NO_SIZE,
-        size2: NO_SIZE,
-        size3: NO_SIZE,
-        digits: 18,
-        default: 0,
-        modes: 0,
-        biases: 0,
-        prefix: DIGITS,
-    },
-    // X'40'
-    Rule {
-        top: 0,
-        size1: 4,
-        size2: 8,
-        size3: 16,
-        digits: 0,
-        default: 8,
-        modes: 0,
-        biases: 0,
-        prefix: 0,
-    },
-    // X'47'
-    Rule {
-        top: 0,
-        size1: 4,
-        size2: 8,
-        size3: NO_SIZE,
-        digits: 0,
-        default: 4,
-        modes: 0,
-        biases: 1,
-        prefix: 0,
-    },
-    // X'48'
-    Rule {
-        top: 0,
-        size1: 4,
-        size2: 8,
-        size3: NO_SIZE,
-        digits: 0,
-        default: 4,
-        modes: 0,
-        biases: 1,
-        prefix: 0,
-    },
-];
+// What a field type allows as its type parameters, and how its values are laid out.
+#[derive(Clone, Copy)]
+struct Rule {
+    layout: Layout,
+    sizes: Sizes,
+    // What a field length other than 4, 8, 16 means.
+    default: Option<usize>,
+    has_mode: bool,
+    has_bias: bool,
+}
+
+const FIXED_BYTES: Rule = Rule {
+    layout: Layout::Fixed,
+    sizes: Sizes::UpTo(32767),
+    default: None,
+    has_mode: false,
+    has_bias: false,
+};
+
+const VARIABLE_BYTES: Rule = Rule {
+    layout: Layout::Long,
+    sizes: Sizes::UpTo(32767),
+    default: None,
+    has_mode: true,
+    has_bias: false,
+};
+
+const TERMINATED_BYTES: Rule = Rule {
+    layout: Layout::Terminated,
+    sizes: Sizes::UpTo(32767),
+    default: None,
+    has_mode: true,
+    has_bias: false,
+};
+
+const SHORT_BYTES: Rule = Rule {
+    layout: Layout::Short,
+    sizes: Sizes::UpTo(255),
+    default: None,
+    has_mode: true,
+    has_bias: false,
+};
+
+// Whole numbers, in either byte order.
+const INTEGER: Rule = Rule {
+    layout: Layout::Fixed,
+    sizes: Sizes::Three(2, 4, 8),
+    default: None,
+    has_mode: false,
+    has_bias: false,
+};
+
+const PACKED_DECIMAL: Rule = Rule {
+    layout: Layout::Digits,
+    sizes: Sizes::DigitsUpTo(18),
+    default: None,
+    has_mode: false,
+    has_bias: false,
+};
+
+const HEX_FLOAT: Rule = Rule {
+    layout: Layout::Fixed,
+    sizes: Sizes::Three(4, 8, 16),
+    default: Some(8),
+    has_mode: false,
+    has_bias: false,
+};
+
+// Binary floats, in either byte order.
+const BINARY_FLOAT: Rule = Rule {
+    layout: Layout::Fixed,
+    sizes: Sizes::Two(4, 8),
+    default: Some(4),
+    has_mode: false,
+    has_bias: true,
+};
 
 // The plain code of a type code, whose nullable form is the plain code plus X'80'.
 pub fn plain_code(code: u8) -> u8
     ensures { result ≡ plain code }
 {
-    if code < 128 {
-        return code;
-    }
-    code - 128
+    if code < 128 { code } else { code - 128 }
 }
 
-// The rule that a plain code finds; where it finds none, that of row 0. Each index is a constant, so that the table is never copied to be read.
-fn rule_at(code: u8) -> Rule
-    ensures { result ≡ rule_at code }
+// The rule that a plain code finds. Each is a constant, so that no table is copied to be read.
+fn rule_at(code: u8) -> Option<Rule>
+    ensures { StandsFor (type_at code) result }
 {
-    match code {
-        0x01 => RULES[1],
-        0x02 => RULES[2],
-        0x03 => RULES[3],
-        0x07 => RULES[4],
-        0x23 => RULES[5],
-        0x24 => RULES[6],
-        0x30 => RULES[7],
-        0x40 => RULES[8],
-        0x47 => RULES[9],
-        0x48 => RULES[10],
-        _ => RULES[0],
-    }
+    let rule = match code {
+        0x01 => FIXED_BYTES,
+        0x02 => VARIABLE_BYTES,
+        0x03 => TERMINATED_BYTES,
+        0x07 => SHORT_BYTES,
+        0x23 => INTEGER,
+        0x24 => INTEGER,
+        0x30 => PACKED_DECIMAL,
+        0x40 => HEX_FLOAT,
+        0x47 => BINARY_FLOAT,
+        0x48 => BINARY_FLOAT,
+        _ => return None,
+    };
+    Some(rule)
 }
 
 // The rule by which a type code is judged: that of its plain code.
-fn rule_of(code: u8) -> Rule
-    ensures { result ≡ encoded (type_of code) }
+fn rule_of(code: u8) -> Option<Rule>
+    ensures { StandsFor (type_of code) result }
 {
     let plain = plain_code(code);
     rule_at(plain)
@@ -235,132 +189,76 @@ fn unused_zero(ps: &[u8]) -> bool
     requires { length ps.now ≡ 8 }
     ensures { result ≡ unused_zero ps.now }
 {
-    if ps[0] != 0 {
-        return false;
-    }
-    if ps[1] != 0 {
-        return false;
-    }
-    if ps[4] != 0 {
-        return false;
-    }
-    true
-}
-
-// Whether a rule allows a field length.
-fn length_allowed(rule: Rule, f: usize) -> bool
-    ensures { result ≡ length_allowed rule f }
-{
-    if f < rule.top {
-        return true;
-    }
-    if f == rule.size1 {
-        return true;
-    }
-    if f == rule.size2 {
-        return true;
-    }
-    if f == rule.size3 {
-        return true;
-    }
-    false
+    ps[0] == 0 && ps[1] == 0 && ps[4] == 0
 }
 
 // Whether there are 1 to `most` digits, and at most as many fraction digits.
 fn digits_allowed(most: usize, p: usize, fraction: usize) -> bool
-    ensures { result ≡ digits_allowed most p fraction }
+    ensures { result ≡ allows (digits_up_to most) (digits p fraction) }
 {
-    if p < 1 {
-        return false;
+    1 <= p && p <= most && fraction <= p
+}
+
+// Whether a size is allowed, by its two bytes as one number.
+fn size_allowed(sizes: Sizes, size: usize) -> bool
+    ensures { result ≡ allows_number (sizes_of sizes) size }
+{
+    match sizes {
+        Sizes::UpTo(most) => size <= most,
+        Sizes::Two(a, b) => size == a || size == b,
+        Sizes::Three(a, b, c) => size == a || size == b || size == c,
+        Sizes::DigitsUpTo(most) => digits_allowed(most, size / 256, size % 256),
     }
-    if most < p {
-        return false;
-    }
-    fraction <= p
 }
 
 // The size that holds, by its two bytes as one number: a type's default, where it has one, in place of a field length other than 4, 8, 16.
-fn size_held(rule: Rule, size: usize) -> usize
-    ensures { result ≡ size_held rule size }
+fn size_held(default: Option<usize>, size: usize) -> usize
+    ensures { result ≡ length_that_holds (given default) size }
 {
-    if rule.default == 0 {
+    if matches!(size, 4 | 8 | 16) {
         return size;
     }
-    if size == 4 {
-        return size;
-    }
-    if size == 8 {
-        return size;
-    }
-    if size == 16 {
-        return size;
-    }
-    rule.default
-}
-
-// Whether a rule allows a size, by its two bytes as one number.
-fn size_allowed(rule: Rule, size: usize) -> bool
-    ensures { result ≡ size_allowed rule size }
-{
-    if rule.digits == 0 {
-        return length_allowed(rule, size);
-    }
-    digits_allowed(rule.digits, size / 256, size % 256)
+    default.unwrap_or(size)
 }
 
 // Whether a length that a group triplet gives, in two bytes, suits the type of a code as it is given; one of zero replaces nothing, and is good.
 pub fn good_length(code: u8, a: u8, b: u8) -> bool
     ensures { result ≡ good_column code a b }
 {
-    let length = wide(a) * 256 + wide(b);
+    let length = usize::from(a) * 256 + usize::from(b);
     if length == 0 {
         return true;
     }
-    let rule = rule_of(code);
-    size_allowed(rule, length)
+    match rule_of(code) {
+        Some(rule) => size_allowed(rule.sizes, length),
+        None => false,
+    }
 }
 
 // Whether a rule allows a bias indicator, a mode and a size.
 fn rule_allows(rule: Rule, bias: usize, mode: u8, size: usize) -> bool
     ensures { result ≡ rule_allows rule bias mode size }
 {
-    if rule.biases < bias {
-        return false;
-    }
-    if rule.modes < mode {
-        return false;
-    }
-    size_allowed(rule, size)
+    bias <= usize::from(rule.has_bias)
+        && mode <= u8::from(rule.has_mode)
+        && size_allowed(rule.sizes, size)
 }
 
-// The shape of an SDA that is not good.
-pub fn no_shape() -> Shape
-    ensures { result ≡ no_shape }
-{
-    Shape {
-        layout: NO_LAYOUT,
-        size: 0,
-    }
-}
-
-// The shape of an SDA whose type parameters are eight bytes that its field type allows, with the size that holds; else `no_shape`.
-pub fn shape_of(code: u8, ps: &[u8]) -> Shape
+// The shape of an SDA whose type parameters are eight bytes that its field type allows, with the size that holds.
+pub fn shape_of(code: u8, ps: &[u8]) -> Option<Shape>
     ensures { result ≡ shape_if (good_eight code ps.now) code ps.now }
 {
-    if ps.len() != 8 {
-        return no_shape();
+    if ps.len() != 8 || !unused_zero(ps) {
+        return None;
     }
-    if !unused_zero(ps) {
-        return no_shape();
+    let rule = rule_of(code)?;
+    let given = usize::from(ps[6]) * 256 + usize::from(ps[7]);
+    let size = size_held(rule.default, given);
+    if !rule_allows(rule, pair(ps[2], ps[3]), ps[5], size) {
+        return None;
     }
-    let rule = rule_of(code);
-    let given = wide(ps[6]) * 256 + wide(ps[7]);
-    let size = size_held(rule, given);
-    if rule_allows(rule, pair(ps[2], ps[3]), ps[5], size) {
-        return Shape {
-            layout: rule.prefix,
-            size: size,
-        };
-    }
-    no_shape()
+    Some(Shape {
+        layout: rule.layout,
+        size: size,
+    })
 }
