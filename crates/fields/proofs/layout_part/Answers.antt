@@ -1,12 +1,8 @@
-use Rattle.fdoca.proofs.Tests.{tests}
-use Rattle.fields.proofs.Parts.{digits_way}
-use Rattle.fields.specs.Parts.{layout_part}
-use borrow.Author.Rules.{rules}
+use Rattle.fields.proofs.Parts.{digits_layout, other_layout}
 use Rattle.fields.proofs.layout_part.Goals as goal
 
-pub returns-then-layout-eq-DIGITS : goal.returns-then-layout-eq-DIGITS
-returns-then-layout-eq-DIGITS c = digits_way _ _ (search rules)
+pub returns-in-Digits : goal.returns-in-Digits
+returns-in-Digits c = digits_layout _ _ c.in-Digits.is
 
-pub returns : goal.returns
-unfolding layout_part
-returns c = search (rules, tests)
+pub returns-in_default : goal.returns-in_default
+returns-in_default c = other_layout _ _ _ c.in_default.not-Digits c.number.ensures

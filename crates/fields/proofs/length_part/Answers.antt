@@ -1,12 +1,8 @@
-use Rattle.fdoca.proofs.Tests.{tests}
-use Rattle.fields.specs.Parts.{length_part}
-use borrow.Author.Rules.{rules}
+use Rattle.fields.proofs.Parts.{digits_length, other_length}
 use Rattle.fields.proofs.length_part.Goals as goal
 
-pub returns-then-layout-eq-DIGITS : goal.returns-then-layout-eq-DIGITS
-unfolding length_part
-returns-then-layout-eq-DIGITS c = search (rules, tests)
+pub returns-in-Digits : goal.returns-in-Digits
+returns-in-Digits c = digits_length _ _ c.requires c.in-Digits.is
 
-pub returns : goal.returns
-unfolding length_part
-returns c = search (rules, tests)
+pub returns-in_default : goal.returns-in_default
+returns-in_default c = other_length _ _ c.requires c.in_default.not-Digits
