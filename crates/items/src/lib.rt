@@ -5,11 +5,12 @@
 ghost use Rattle.std.specs.Prelude.{◌≡◌, ◌≤◌};
 ghost use Rattle.fdoca.specs.FieldType.{signed_two, unsigned_one};
 ghost use Rattle.fdoca.specs.Item.{space, measure_fixed, measure_counted, measure_value, measure_item};
-ghost use Rattle.field_types.specs.Rows.{layout_of};
+ghost use Rattle.field_types.specs.Layouts.{layout_of};
 ghost use Rattle.terminated.specs.Answer.{measured};
 ghost use Rattle.items.specs.Answer.{measure_sent, measure_ranged, measure_indicator, told};
 
 use fdoca::Reason;
+use field_types::Layout;
 use terminated::Measured;
 
 // A value of F bytes, which is the whole item of a form without a null indicator.
@@ -77,15 +78,15 @@ fn counted_two(s: &[u8], mode: u8, f: usize) -> Result<Measured, Reason>
 }
 
 // An item without null indicator, or what follows one.
-#[tactic(auto, unfolding(fdoca::specs::Item::measure_value, field_types::specs::Rows::layout_of))]
-fn value(s: &[u8], layout: u8, mode: u8, f: usize) -> Result<Measured, Reason>
+#[tactic(auto, unfolding(fdoca::specs::Item::measure_value, field_types::specs::Layouts::layout_of))]
+fn value(s: &[u8], layout: Layout, mode: u8, f: usize) -> Result<Measured, Reason>
     ensures { measured result ≡ measure_value (layout_of layout) mode f s.now }
 {
     match layout {
-        0 => fixed_value(s, f),
-        1 => counted_one(s, mode, f),
-        2 => counted_two(s, mode, f),
-        _ => terminated::terminated_value(s, mode, f),
+        Layout::Fixed | Layout::Digits => fixed_value(s, f),
+        Layout::Short => counted_one(s, mode, f),
+        Layout::Long => counted_two(s, mode, f),
+        Layout::Terminated => terminated::terminated_value(s, mode, f),
     }
 }
 
@@ -105,10 +106,15 @@ fn indicator(s: &[u8], nullable: bool) -> Result<Option<usize>, Reason>
     }
 }
 
-// The item at the start of `s`. Its layout is 0 for a value of F bytes, 1 or 2 for a length field of so many bytes, and else a value
-// that ends before a zero byte.
+// The item at the start of `s`.
 #[tactic(auto, using(crate::proofs::Ways::measured_ways))]
-pub fn measure(s: &[u8], nullable: bool, layout: u8, mode: u8, f: usize) -> Result<Measured, Reason>
+pub fn measure(
+    s: &[u8],
+    nullable: bool,
+    layout: Layout,
+    mode: u8,
+    f: usize,
+) -> Result<Measured, Reason>
     ensures { measured result ≡ measure_item nullable (layout_of layout) mode f s.now }
 {
     let Some(skip) = indicator(s, nullable)? else {
