@@ -75,71 +75,73 @@ struct Rule {
     has_bias: bool,
 }
 
-const FIXED_BYTES: Rule = Rule {
-    layout: Layout::Fixed,
-    sizes: Sizes::UpTo(32767),
-    default: None,
-    has_mode: false,
-    has_bias: false,
-};
-
-const VARIABLE_BYTES: Rule = Rule {
-    layout: Layout::Long,
-    sizes: Sizes::UpTo(32767),
-    default: None,
-    has_mode: true,
-    has_bias: false,
-};
-
-const TERMINATED_BYTES: Rule = Rule {
-    layout: Layout::Terminated,
-    sizes: Sizes::UpTo(32767),
-    default: None,
-    has_mode: true,
-    has_bias: false,
-};
-
-const SHORT_BYTES: Rule = Rule {
-    layout: Layout::Short,
-    sizes: Sizes::UpTo(255),
-    default: None,
-    has_mode: true,
-    has_bias: false,
-};
-
-// Whole numbers, in either byte order.
-const INTEGER: Rule = Rule {
-    layout: Layout::Fixed,
-    sizes: Sizes::Three(2, 4, 8),
-    default: None,
-    has_mode: false,
-    has_bias: false,
-};
-
-const PACKED_DECIMAL: Rule = Rule {
-    layout: Layout::Digits,
-    sizes: Sizes::DigitsUpTo(18),
-    default: None,
-    has_mode: false,
-    has_bias: false,
-};
-
-const HEX_FLOAT: Rule = Rule {
-    layout: Layout::Fixed,
-    sizes: Sizes::Three(4, 8, 16),
-    default: Some(8),
-    has_mode: false,
-    has_bias: false,
-};
-
-// Binary floats, in either byte order.
-const BINARY_FLOAT: Rule = Rule {
-    layout: Layout::Fixed,
-    sizes: Sizes::Two(4, 8),
-    default: Some(4),
-    has_mode: false,
-    has_bias: true,
-};
+// The rules, row by row.
+const RULES: [Rule; 8] = [
+    // X'01'
+    Rule {
+        layout: Layout::Fixed,
+        sizes: Sizes::UpTo(32767),
+        default: None,
+        has_mode: false,
+        has_bias: false,
+    },
+    // X'02'
+    Rule {
+        layout: Layout::Long,
+        sizes: Sizes::UpTo(32767),
+        default: None,
+        has_mode: true,
+        has_bias: false,
+    },
+    // X'03'
+    Rule {
+        layout: Layout::Terminated,
+        sizes: Sizes::UpTo(32767),
+        default: None,
+        has_mode: true,
+        has_bias: false,
+    },
+    // X'07'
+    Rule {
+        layout: Layout::Short,
+        sizes: Sizes::UpTo(255),
+        default: None,
+        has_mode: true,
+        has_bias: false,
+    },
+    // X'23' and X'24'
+    Rule {
+        layout: Layout::Fixed,
+        sizes: Sizes::Three(2, 4, 8),
+        default: None,
+        has_mode: false,
+        has_bias: false,
+    },
+    // X'30'
+    Rule {
+        layout: Layout::Digits,
+        sizes: Sizes::DigitsUpTo(18),
+        default: None,
+        has_mode: false,
+        has_bias: false,
+    },
+    // X'40'
+    Rule {
+        layout: Layout::Fixed,
+        sizes: Sizes::Three(4, 8, 16),
+        default: Some(8),
+        has_mode: false,
+        has_bias: false,
+    },
+    // X'47' and X'48'
+    Rule {
+        layout: Layout::Fixed,
+        sizes: Sizes::Two(4, 8),
+        default: Some(4),
+        has_mode: false,
+        has_bias: true,
+    },
+];
 
 // The plain code of a type code, whose nullable form is the plain code plus X'80'.
 pub fn plain_code(code: u8) -> u8
@@ -148,21 +150,21 @@ pub fn plain_code(code: u8) -> u8
     if code < 128 { code } else { code - 128 }
 }
 
-// The rule that a plain code finds. Each is a constant, so that no table is copied to be read.
+// The rule that a plain code finds. Each index is a constant, so that the table is never copied to be read.
 fn rule_at(code: u8) -> Option<Rule>
     ensures { StandsFor (type_at code) result }
 {
     let rule = match code {
-        0x01 => FIXED_BYTES,
-        0x02 => VARIABLE_BYTES,
-        0x03 => TERMINATED_BYTES,
-        0x07 => SHORT_BYTES,
-        0x23 => INTEGER,
-        0x24 => INTEGER,
-        0x30 => PACKED_DECIMAL,
-        0x40 => HEX_FLOAT,
-        0x47 => BINARY_FLOAT,
-        0x48 => BINARY_FLOAT,
+        0x01 => RULES[0],
+        0x02 => RULES[1],
+        0x03 => RULES[2],
+        0x07 => RULES[3],
+        0x23 => RULES[4],
+        0x24 => RULES[4],
+        0x30 => RULES[5],
+        0x40 => RULES[6],
+        0x47 => RULES[7],
+        0x48 => RULES[7],
         _ => return None,
     };
     Some(rule)
