@@ -1,5 +1,6 @@
 -- The loop over the groups of an RLO or a GDA and of its CPTs: at a group, at the head of a CPT and at the end of the row; and that of `expand`.
 -- Assumes nothing.
+use Rattle.std.specs.Prelude.{Option, Some, None}
 use mathlib.Core.Path.{◌≡◌, refl, sym, ap, ◌∙◌, subst}
 use mathlib.Core.List.{List, [], ◌∷◌, ◌++◌, map, map-append, append-nil, append_assoc}
 use Prim.Native.Nat.{ℕ, suc, ◌+◌, ◌-◌, ◌≤◌, ◌<◌}
@@ -91,37 +92,35 @@ module _ (d s : List ℕ) (p g end : ℕ) (h : g < end) (r : Left d s p g end) w
 
 module _ (d : List ℕ) (g : ℕ) where
   -- a CPT stands at g
-  at_cpt : (end_of_cpt d g ≡ 0 → ⊥) → (g + 3 ≤ length d) × (get_or d (g + 1) 0 ≡ 0x7F) × (end_of_cpt d g ≡ g + get_or d g 0)
+  at_cpt : (e : ℕ) → Some e ≡ end_of_cpt d g → (g + 3 ≤ length d) × (get_or d (g + 1) 0 ≡ 0x7F) × (e ≡ g + get_or d g 0)
   unfolding end_of_cpt
-  at_cpt =
-      let P : ℕ → Type 0 = λ r. (r ≡ 0 → ⊥) → (g + 3 ≤ length d) × (get_or d (g + 1) 0 ≡ 0x7F) × (r ≡ g + get_or d g 0) in
-      by_lt P (length d - g) 3 (λ h z. absurd (z refl))
-      (λ h. by_eq P (get_or d (g + 1) 0) 0x7F (λ e z. (omega arith, e, refl)) (λ e z. absurd (z refl)))
+  at_cpt e =
+      let P : Option ℕ → Type 0 = λ r. Some e ≡ r → (g + 3 ≤ length d) × (get_or d (g + 1) 0 ≡ 0x7F) × (e ≡ g + get_or d g 0) in
+      by_lt P (length d - g) 3 (λ h z. cc)
+      (λ h. by_eq P (get_or d (g + 1) 0) 0x7F (λ t z. (omega arith, t, cc)) (λ t z. cc))
 
   -- none does
-  no_cpt_lem : (n : ℕ) → n ≤ 0 → 0 < g → end_of_cpt d g ≡ 0 → groups_in n (drop g d) ≡ []
+  no_cpt_lem : (n : ℕ) → n ≤ 0 → 0 < g → None ≡ end_of_cpt d g → groups_in n (drop g d) ≡ []
   unfolding end_of_cpt
   no_cpt_lem n k z =
-      let P : ℕ → Type 0 = λ r. r ≡ 0 → groups_in n (drop g d) ≡ [] in
+      let P : Option ℕ → Type 0 = λ r. None ≡ r → groups_in n (drop g d) ≡ [] in
       by_lt P (length d - g) 3 (λ h e. too_short n (drop g d) (omega (arith, length-drop g d)))
-      (λ h. by_eq P (get_or d (g + 1) 0) 0x7F (λ t e. absurd (omega arith))
+      (λ h. by_eq P (get_or d (g + 1) 0) 0x7F (λ t e. cc)
       (λ t e. ap (groups_in n) (three d g (omega arith)) ∙ no_more n _ _ _ _ k t))
 
-module _ (d s : List ℕ) (p g end : ℕ) (h : end ≤ g) (cpt_byte : end_of_cpt d g ≡ 0 → ⊥) where
-  next : left d g end ≡ left d (g + 3) (end_of_cpt d g)
+module _ (d s : List ℕ) (p g end : ℕ) (h : end ≤ g) (e : ℕ) (cpt : Some e ≡ end_of_cpt d g) where
+  next : left d g end ≡ left d (g + 3) e
   next =
-      let c = at_cpt d g cpt_byte in
-      let e : end_of_cpt d g ≡ g + get_or d g 0 = c.2 in
-      let q : get_or d g 0 - 3 ≡ end_of_cpt d g - (g + 3) = omega arith in
+      let c = at_cpt d g e cpt in
+      let q : get_or d g 0 - 3 ≡ e - (g + 3) = omega arith in
       ap (groups_in (end - g)) (three d g c.0)
       ∙ behind_head (end - g) _ _ _ _ (omega arith) c.1
       ∙ ap (λ (n : ℕ). groups_in n (drop (g + 3) d)) q
 
-  next_fine : Left d s p g end → Left d s p (g + 3) (end_of_cpt d g)
+  next_fine : Left d s p g end → Left d s p (g + 3) e
   next_fine r =
-      let c = at_cpt d g cpt_byte in
-      let e : end_of_cpt d g ≡ g + get_or d g 0 = c.2 in
-      let q : get_or d g 0 - 3 ≡ end_of_cpt d g - (g + 3) = omega arith in
+      let c = at_cpt d g e cpt in
+      let q : get_or d g 0 - 3 ≡ e - (g + 3) = omega arith in
       subst (λ (n : ℕ). Groups (Refers (kind_at d p) d s p) n (drop (g + 3) d)) q
       (behind_fine (end - g) _ _ _ _ (Refers (kind_at d p) d s p) (omega arith) c.1 (subst (Groups (Refers (kind_at d p) d s p) (end - g)) (three d g c.0) r))
 
@@ -146,8 +145,8 @@ adds_none kind ds = refl
 
 -- ---- the measures: 2p for the row at p, 2q + 1 for a group whose id's triplet stands at q
 
-pub off : (q t : ℕ) → q + q + 1 ≡ t → q + q < t
-off q t e = omega arith
+pub off : (q t p : ℕ) → (p ≡ q) × (p < 65536) → q + q + 1 ≡ t → p + p < t
+off q t p h e = omega arith
 
 -- ---- the invariant: the groups passed made the fields `done`, and those that are left give the others of the row at p
 
@@ -159,10 +158,10 @@ pub record Passed (d s : List ℕ) (p head g end : ℕ) (done : List Field) : Ty
   pub inside : g ≤ length d
 
 module _ (d s : List ℕ) (p head : ℕ) where
-  pub none_passed : head ≡ get_or d (p + 1) 0 → RowAt d s p (row_list d p) → Passed d s p head (p + 3) (p + get_or d p 0) []
+  pub none_passed : head ≡ get_or d (p + 1) 0 → (n : ℕ) → n ≡ get_or d p 0 → RowAt d s p (row_list d p) → Passed d s p head (p + 3) (p + n) []
   unfolding row_list groups_at
-  none_passed e r =
-      let q : get_or d p 0 - 3 ≡ p + get_or d p 0 - (p + 3) = omega arith in
+  none_passed e n en r =
+      let q : get_or d p 0 - 3 ≡ p + n - (p + 3) = omega arith in
       record {
         head_is = e;
         parts = ap (λ (n : ℕ). add_fields (kind_at d p) (described_by d) [] (groups_in n (drop (p + 3) d))) q;
@@ -211,25 +210,22 @@ module _ (d s : List ℕ) (p head : ℕ) where
 
     -- behind the end of a triplet
     module _ (h : end ≤ g) where
-      behind : (end_of_cpt d g ≡ 0 → ⊥) → Passed d s p head (g + 3) (end_of_cpt d g) done
-      behind c =
+      pub head_passed : (e : ℕ) → Some e ≡ end_of_cpt d g → Passed d s p head (g + 3) e done
+      head_passed e c =
           let b : p < g = w.beyond in
           record {
             head_is = w.head_is;
-            parts = w.parts ∙ ap (λ (gs : List Group). done ++ add_fields (kind_at d p) (described_by d) [] gs) (next d s p g end h c);
-            fine = next_fine d s p g end h c w.fine;
+            parts = w.parts ∙ ap (λ (gs : List Group). done ++ add_fields (kind_at d p) (described_by d) [] gs) (next d s p g end h e c);
+            fine = next_fine d s p g end h e c w.fine;
             beyond = omega arith;
-            inside = (at_cpt d g c).0;
+            inside = (at_cpt d g e c).0;
           }
 
-      pub head_passed : (e : ℕ) → e ≡ end_of_cpt d g → (e ≡ 0 → ⊥) → Passed d s p head (g + 3) e done
-      head_passed e u z = subst (λ (n : ℕ). Passed d s p head (g + 3) n done) (sym u) (behind (λ c. z (u ∙ c)))
-
-      pub all_passed : (e : ℕ) → e ≡ end_of_cpt d g → e ≡ 0 → row_list d p ≡ done
-      all_passed e u z =
+      pub all_passed : None ≡ end_of_cpt d g → row_list d p ≡ done
+      all_passed c =
           let b : p < g = w.beyond in
           w.parts
-          ∙ ap (λ (gs : List Group). done ++ add_fields (kind_at d p) (described_by d) [] gs) (no_cpt_lem d g (end - g) (omega arith) (omega arith) (sym u ∙ z))
+          ∙ ap (λ (gs : List Group). done ++ add_fields (kind_at d p) (described_by d) [] gs) (no_cpt_lem d g (end - g) (omega arith) (omega arith) c)
           ∙ ap (λ (l : List Field). done ++ l) (adds_none (kind_at d p) (described_by d))
           ∙ append-nil done
 
@@ -243,8 +239,8 @@ pub record Going (d s : List ℕ) (p at head : ℕ) (plan₀ plan : List ℕ) (a
   pub same_length : length plan ≡ length plan₀
 
 module _ (d s : List ℕ) (p at head : ℕ) (plan₀ : List ℕ) where
-  pub start : head ≡ get_or d (p + 1) 0 → RowAt d s p (row_list d p) → Going d s p at head plan₀ plan₀ at (p + 3) (p + get_or d p 0)
-  start e r = record { done = []; passed = none_passed d s p head e r; written = refl; place = omega arith; same_length = refl }
+  pub start : head ≡ get_or d (p + 1) 0 → (n : ℕ) → n ≡ get_or d p 0 → RowAt d s p (row_list d p) → Going d s p at head plan₀ plan₀ at (p + 3) (p + n)
+  start e n en r = record { done = []; passed = none_passed d s p head e n en r; written = refl; place = omega arith; same_length = refl }
 
   module _ (plan : List ℕ) (a g end : ℕ) (w : Going d s p at head plan₀ plan a g end) where
     -- at a group
@@ -277,20 +273,20 @@ module _ (d s : List ℕ) (p at head : ℕ) (plan₀ : List ℕ) where
           }
 
     -- behind the end of a triplet
-    module _ (h : end ≤ g) (e : ℕ) (u : e ≡ end_of_cpt d g) where
-      pub over : (e ≡ 0 → ⊥) → Going d s p at head plan₀ plan a (g + 3) e
-      over z =
+    module _ (h : end ≤ g) where
+      pub over : (e : ℕ) → Some e ≡ end_of_cpt d g → Going d s p at head plan₀ plan a (g + 3) e
+      over e c =
           record {
             done = w.done;
-            passed = head_passed d s p head g end w.done w.passed h e u z;
+            passed = head_passed d s p head g end w.done w.passed h e c;
             written = w.written;
             place = w.place;
             same_length = w.same_length;
           }
 
-      module _ (z : e ≡ 0) where
+      module _ (c : None ≡ end_of_cpt d g) where
         all_done : row_list d p ≡ w.done
-        all_done = all_passed d s p head g end w.done w.passed h e u z
+        all_done = all_passed d s p head g end w.done w.passed h c
 
         pub finish_place : a ≡ at + length (row_list d p)
         finish_place = w.place ∙ ap (λ (l : List Field). at + length l) (sym all_done)

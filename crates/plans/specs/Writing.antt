@@ -1,5 +1,5 @@
 -- What the functions that write a plan find at a place of a descriptor.
-use Rattle.std.specs.Prelude.{ℕ, ◌+◌, ◌-◌, ◌*◌, ◌/◌, ◌%◌, ◌≡◌, List, [], ltb, eqb, length, get_or, if◌then◌else◌}
+use Rattle.std.specs.Prelude.{ℕ, ◌+◌, ◌-◌, ◌*◌, ◌/◌, ◌%◌, ◌<◌, ◌≡◌, List, [], Option, Some, None, ltb, eqb, length, get_or, if◌then◌else◌}
 use Rattle.std.proofs.Math.Option.{some}
 use Rattle.fdoca.specs.Basics.{lookup}
 use Rattle.fdoca.specs.FieldType.{type_of}
@@ -25,6 +25,7 @@ pub record ColumnAt (d e : List ℕ) (g : ℕ) : Type 0 where
   pub field : Field
   pub known : lookup (get_or d g 0) (described_by d) ≡ some (array field [])
   pub entry : get_or e (get_or d g 0) 0 ≡ entry_of field
+  pub marked : 0 < get_or e (get_or d g 0) 0
   pub proper : Proper field
   pub typed : type_of field.code ≡ some field.type
 
@@ -32,9 +33,9 @@ pub record ColumnAt (d e : List ℕ) (g : ℕ) : Type 0 where
 unfoldable pub entries_taken : (size taken : ℕ) → ℕ
 entries_taken size taken = if eqb taken 0 then size % 65536 else taken * (size / 65536)
 
--- The end of the CPT at g; 0 where none stands there.
-unfoldable pub end_of_cpt : List ℕ → (g : ℕ) → ℕ
+-- The end of the CPT at g, if one stands there.
+unfoldable pub end_of_cpt : List ℕ → (g : ℕ) → Option ℕ
 end_of_cpt d g =
-    if ltb (length d - g) 3 then 0
-    else if eqb (get_or d (g + 1) 0) 0x7F then g + get_or d g 0
-    else 0
+    if ltb (length d - g) 3 then None
+    else if eqb (get_or d (g + 1) 0) 0x7F then Some (g + get_or d g 0)
+    else None

@@ -8,10 +8,10 @@ abbrev pub decreases-expand : goal.decreases-expand
 decreases-expand l = l.p + l.p
 
 abbrev pub decreases-group : goal.decreases-group
-decreases-group l = let q : ℕ = get_or l.starts.now (get_or l.desc.now l.g 0) 0 in q + q + 1
+decreases-group l = let q : ℕ = get_or l.tables.now.starts (get_or l.desc.now l.g 0) 0 in q + q + 1
 
 abbrev pub invariant-expand-loop-g : goal.invariant-expand-loop-g
-invariant-expand-loop-g l = Going l.desc l.starts l.p l.at l.head l.initial.plan l.plan l.a l.g l.end
+invariant-expand-loop-g l = Going l.desc l.tables.starts l.p l.at l.head l.initial.plan l.plan l.a l.g l.end
 
 abbrev pub decreases-expand-loop-g : goal.decreases-expand-loop-g
 decreases-expand-loop-g l = length l.desc + 3 - l.g
