@@ -1,5 +1,6 @@
 -- Whether every field of a layout is an X'01' with F 0: by the entry of an SDA or of a column, and group by group of a row.
 -- Assumes nothing.
+use Rattle.std.specs.Prelude.{Some, None}
 use mathlib.Core.Path.{◌≡◌, refl, sym, ap, ◌∙◌}
 use mathlib.Core.Bool.{Bool, true, false, not, ◌&&◌, and-true, and_self, and_assoc}
 use mathlib.Core.List.{List, [], ◌∷◌, ◌++◌}
@@ -21,7 +22,7 @@ use Rattle.fields.proofs.Replacing.{column_proper}
 use Rattle.plans.specs.Tied.{described_by, kind_of, row_list, Takes, all, some_of, Makes, of_column, Refers, RowAt, SdaKept, Kept}
 use Rattle.plans.specs.Writing.{group_at, group_list, end_of_cpt}
 use Rattle.plans.proofs.Lists.{repeat_replicate}
-use Rattle.plans.proofs.Referred.{kind_array, kind_row, kinds_differ, row_refers, none_list}
+use Rattle.plans.proofs.Referred.{kind_array, kind_row, kinds_differ, column_found, row_refers, none_list}
 use Rattle.plans.proofs.Rows.{Passed, none_passed, refers_back, rest, split, one_passed, head_passed, all_passed}
 use Rattle.rows.specs.Pass.{pass_list, PassAt, TiedSome, no_data}
 use Rattle.rows.proofs.Passing.{row_pass}
@@ -62,28 +63,31 @@ by_sda {z = z} {e = e} {i = i} (suc t) f [] k x3 = elim x3 [ ]
 
 -- ---- `endless`
 
-module _ (d s e : List ℕ) (g i : ℕ) (tied : TiedSome d s e) (k : PassAt d g) (ei : i ≡ get_or d g 0) where
-  pub by_row : get_or e i 0 ≡ 0 → (r : Bool) → r ≡ endless (row_list d (get_or s i 0)) → r ≡ endless (pass_list d g)
-  by_row m r u = u ∙ ap endless (sym (row_pass d s tied.sizes e g i tied.tied k ei m).0)
+module _ (d s e : List ℕ) (g : ℕ) (tied : TiedSome d s e) (k : PassAt d g) where
+  pub by_row : get_or e (get_or d g 0) 0 ≡ 0 → (p : ℕ) → (p ≡ get_or s (get_or d g 0) 0) × (p < 65536) → (r : Bool) → r ≡ endless (row_list d p) → r ≡ endless (pass_list d g)
+  by_row m p ep r u = u ∙ ap endless (sym (row_pass d s tied.sizes e g tied.tied k m p ep).0)
 
-  pub by_array : (get_or e i 0 ≡ 0 → ⊥) → (r : Bool) → r ≡ no_data (get_or e i 0) → r ≡ endless (pass_list d g)
+  pub by_array : (x : ℕ) → (x ≡ get_or e (get_or d g 0) 0) × (0 < x) → (r : Bool) → r ≡ no_data x → r ≡ endless (pass_list d g)
   unfolding pass_list group_at
-  by_array m r u = u ∙ rw (ei, k.known) (go k.to k.takes (tied.tied.each (get_or d g 0) k.to k.known))
+  by_array x m r u = u ∙ rw (m.0, k.known) (go k.to k.takes (tied.tied.each (get_or d g 0) k.to k.known))
     where
       go : (D : Described) → Takes (get_or d (g + 1) 0) D → Kept d s tied.sizes e (get_or d g 0) D → no_data (get_or e (get_or d g 0) 0) ≡ endless (fields_taken (get_or d (g + 1) 0) D)
       go (array f xs) t h = by_sda (get_or d (g + 1) 0) f xs h t
-      go (row l) t h = absurd (m (rw ei h.unmarked))
+      go (row l) t h = absurd (omega (arith, h.unmarked, m))
 
-  pub row_below : (t : ℕ) → get_or s (get_or d g 0) 0 + get_or s (get_or d g 0) 0 + get_or s (get_or d g 0) 0 + 1 ≡ t → get_or s i 0 + get_or s i 0 + get_or s i 0 < t
-  row_below t u = rw ei (omega arith)
+  pub row_below : (t p : ℕ) → (p ≡ get_or s (get_or d g 0) 0) × (p < 65536) → get_or s (get_or d g 0) 0 + get_or s (get_or d g 0) 0 + get_or s (get_or d g 0) 0 + 1 ≡ t → p + p + p < t
+  row_below t p ep u = omega arith
 
 -- ---- `endless_group`
 
 module _ (d s e : List ℕ) (q g head : ℕ) (tied : TiedSome d s e) (k : Refers (kind_of head) d s q (group_at d g)) where
-  pub by_column : head ≡ 0x75 → (i x : ℕ) → i ≡ get_or d g 0 → Replaced (get_or e i 0) (get_or d (g + 1) 0) (get_or d (g + 2) 0) x
+  pub column_marked : head ≡ 0x75 → 0 < get_or e (get_or d g 0) 0
+  column_marked h = (column_found d s tied.sizes e q g 0 head tied.tied k h).marked
+
+  pub by_column : head ≡ 0x75 → (own x : ℕ) → (own ≡ get_or e (get_or d g 0) 0) × (0 < own) → Replaced own (get_or d (g + 1) 0) (get_or d (g + 2) 0) x
       → (r : Bool) → r ≡ no_data x → r ≡ endless (group_list d (kind_of head) g)
   unfolding group_at group_list
-  by_column h i x ei w r u = u ∙ rw (kind_array head h) (go (kind_of head) (kind_array head h) k.to k.known k.makes)
+  by_column h own x eo w r u = u ∙ rw (kind_array head h) (go (kind_of head) (kind_array head h) k.to k.known k.makes)
     where
       a : ℕ
       a = get_or d (g + 1) 0
@@ -94,15 +98,15 @@ module _ (d s e : List ℕ) (q g head : ℕ) (tied : TiedSome d s e) (k : Refers
       go : (m : Kind) → m ≡ gda → (D : Described) → lookup (get_or d g 0) (described_by d) ≡ some D → Makes m (group_at d g) D → no_data x ≡ endless (group_list d gda g)
       go gda t (array f []) o (of_column good) =
           let y = tied.tied.each (get_or d g 0) (array f []) o in
-          let v : x ≡ entry_of (column a b f) = w.same f y.proper y.typed (rw ei y.entry) in
+          let v : x ≡ entry_of (column a b f) = w.same f y.proper y.typed (eo.0 ∙ y.entry) in
           rw (v, o) (by_entry (column a b f) (column_proper f a b y.proper y.typed good))
       go gda t (array f (_ ∷ _)) o m = elim m [ ]
       go gda t (row _) o m = elim m [ ]
       go rlo t D o m = kinds_differ t
 
   module _ (h : head ≡ 0x75 → ⊥) where
-    pub by_none : get_or d (g + 2) 0 ≡ 0 → true ≡ endless (group_list d (kind_of head) g)
-    by_none z = rw (none_list d s tied.sizes e q g 0 head tied.tied k h z)
+    pub by_none : get_or d (g + 2) 0 ≡ 0 → eqb (get_or d (g + 2) 0) 0 ≡ endless (group_list d (kind_of head) g)
+    by_none z = rw (z, none_list d s tied.sizes e q g 0 head tied.tied k h (get_or d (g + 2) 0) refl z)
 
     pub layout_here : g + 3 ≤ length d → PassAt d g
     unfolding group_at
@@ -123,8 +127,8 @@ pub record Plain (d s : List ℕ) (p head g end : ℕ) : Type 0 where
   pub such : endless done ≡ true
 
 module _ (d s : List ℕ) (p head : ℕ) where
-  pub begun : head ≡ get_or d (p + 1) 0 → RowAt d s p (row_list d p) → Plain d s p head (p + 3) (p + get_or d p 0)
-  begun e r = record { done = []; passed = none_passed d s p head e r; such = refl }
+  pub begun : head ≡ get_or d (p + 1) 0 → (n : ℕ) → n ≡ get_or d p 0 → RowAt d s p (row_list d p) → Plain d s p head (p + 3) (p + n)
+  begun e n en r = record { done = []; passed = none_passed d s p head e n en r; such = refl }
 
   module _ (g end : ℕ) (w : Plain d s p head g end) where
     -- at a group
@@ -154,9 +158,9 @@ module _ (d s : List ℕ) (p head : ℕ) where
             ∙ rw (with_group, not-true r t))
 
     -- behind the end of a triplet
-    module _ (h : end ≤ g) (e : ℕ) (u : e ≡ end_of_cpt d g) where
-      pub at_next : (e ≡ 0 → ⊥) → Plain d s p head (g + 3) e
-      at_next z = record { done = w.done; passed = head_passed d s p head g end w.done w.passed h e u z; such = w.such }
+    module _ (h : end ≤ g) where
+      pub at_next : (e : ℕ) → Some e ≡ end_of_cpt d g → Plain d s p head (g + 3) e
+      at_next e c = record { done = w.done; passed = head_passed d s p head g end w.done w.passed h e c; such = w.such }
 
-      pub all_such : e ≡ 0 → true ≡ endless (row_list d p)
-      all_such z = sym (ap endless (all_passed d s p head g end w.done w.passed h e u z) ∙ w.such)
+      pub all_such : None ≡ end_of_cpt d g → true ≡ endless (row_list d p)
+      all_such c = sym (ap endless (all_passed d s p head g end w.done w.passed h c) ∙ w.such)
