@@ -18,6 +18,7 @@ use Rattle.fdoca.proofs.Floats.{doubled, is_equal_float, number, worth_over, ove
 use Rattle.fdoca.proofs.FloatForms.{above_maximum, is_float, fields_value, fields_fit}
 use Rattle.fdoca.proofs.FloatForms as forms
 use Rattle.fdoca.specs.Returned.{option_of}
+use Rattle.floats.specs.declared.Scaled.{Scaled}
 use Rattle.floats.specs.Reals.{Units, Hexadecimal, exact, over, Narrow, significand_by, power_by, Binary, in_range, above}
 
 -- THE PATTERN of a sign, a characteristic and a fraction
@@ -75,12 +76,12 @@ module _ (s : Bool) (m p : ℕ) where
         rw e (units (r + 1) (q - 2 ^ 52) x (omega arith) (rw same at w))
 
 -- BINARY
-module _ (v : Float) (s : Bool) (c t h m p : ℕ) where
-  pub low : c ≡ 0 → c ≤ m → Units v s t p → Binary s c t h m p (Some v)
-  low e l u = in_range l (rw (eq-eqb c 0 e) u)
+module _ (v : Float) (s : Bool) (c t h m p : ℕ) (x : Scaled) (l : c ≤ m) (u : Units v s x.significand x.power) where
+  pub low : c ≡ 0 → x ≡ record { significand = t; power = p } → Binary s c t h m p (Some v)
+  low e w = in_range l (rw (eq-eqb c 0 e) (rw w at u))
 
-  pub high : (c ≡ 0 → ⊥) → c ≤ m → Units v s (h + t) (p + c - 1) → Binary s c t h m p (Some v)
-  high n l u = in_range l (rw (ne_eqb c 0 n) u)
+  pub high : (c ≡ 0 → ⊥) → x ≡ record { significand = h + t; power = p + c - 1 } → Binary s c t h m p (Some v)
+  high n w = in_range l (rw (ne_eqb c 0 n) (rw w at u))
 
 equal_binary : (v : Float) (s : Bool) (c t h l p : ℕ) → p + l ≡ 1075 → Units v s (significand_by h c t) (power_by p c)
     → Equal v (if eqb c 0 then record { negative = s; m = t; e = minus 1 l } else record { negative = s; m = h + t; e = minus c l })
@@ -119,7 +120,6 @@ odd_least m q (suc a) (suc b) l o e = odd_least m q a b l o (omega (arith, doubl
 
 module _ (s : Bool) (m p q r : ℕ) (same : q * 2 ^ r ≡ m * 2 ^ p) where
   pub too_long_lem : Narrow q → 2 ^ 53 ≤ q → Hexadecimal s m p None
-  unfolding Narrow
   too_long_lem n l = over (λ a b h. at_least (2 ^ 53) a (λ k. odd_least a q (b + p) r (omega arith) (n l) (rw (pow-add, ← mul_assoc, ← h) (sym same))))
 
   pub short_enough : (v : Float) → Units v s q r → Hexadecimal s m p (Some v)

@@ -16,7 +16,7 @@ pub data Hexadecimal (s : Bool) (m p : ℕ) : Option Float → Type 0 where
   over : Over53 m → Hexadecimal s m p None
 
 -- A significand of at most 53 bits, or an odd one.
-unfoldable pub Narrow : ℕ → Type 0
+abbrev pub Narrow : ℕ → Type 0
 Narrow q = 2 ^ 53 ≤ q → q % 2 ≡ 1
 
 -- Significand and power of a binary float: `hidden` is the weight of the 1 before the fraction t, `power` that of the characteristic 1.

@@ -19,9 +19,9 @@ pub enum Format {
     LongBinary,
 }
 
-// A whole significand, and a power of two.
-#[derive(Drop)]
-struct Shifted {
+// A whole significand, times a power of two.
+#[derive(Clone, Copy)]
+struct Scaled {
     significand: u64,
     power: u64,
 }
@@ -49,59 +49,63 @@ fn of_parts(negative: bool, characteristic: u64, fraction: u64) -> f64
     }
 }
 
-// The same number with a leading 1, or else with the power 0.
-fn shifted_left(significand: u64, power: u64) -> Shifted
-    requires { significand < 2 ^ 53 }
-    ensures { (result.significand * 2 ^ result.power ≡ significand * 2 ^ power) × (result.significand < 2 ^ 53) × (result.power ≤ power) × (result.significand < 2 ^ 52 → result.power ≡ 0) }
-{
-    let mut q = significand;
-    let mut p = power;
-    while q < LEADING && 0 < p {
-        q *= 2;
-        p -= 1;
-    }
-    Shifted {
-        significand: q,
-        power: p,
-    }
-}
+impl Scaled {
+    ghost use Rattle.floats.specs.Scaled.{units_of};
 
-// The same number with at most 53 bits, or else odd.
-fn shifted_right(significand: u64, power: u64) -> Shifted
-    requires { (significand < 2 ^ 56) × (power ≤ 2030) }
-    ensures { (result.significand * 2 ^ result.power ≡ significand * 2 ^ power) × Narrow result.significand × (result.power ≤ 2045) }
-{
-    let mut q = significand;
-    let mut p = power;
-    while TOO_LONG <= q && q % 2 == 0 {
-        q /= 2;
-        p += 1;
+    // The same number with a leading 1, or else with the power 0.
+    fn shifted_left(self) -> Scaled
+        requires { self.significand < 2 ^ 53 }
+        ensures same { units_of result ≡ units_of self }
+        ensures at_most_53_bits { result.significand < 2 ^ 53 }
+        ensures power { result.power ≤ self.power }
+        ensures leading { result.significand < 2 ^ 52 → result.power ≡ 0 }
+    {
+        let mut shifted = self;
+        while shifted.significand < LEADING && 0 < shifted.power {
+            shifted.significand *= 2;
+            shifted.power -= 1;
+        }
+        shifted
     }
-    Shifted {
-        significand: q,
-        power: p,
-    }
-}
 
-// The float that is the significand times 2 to the power, in units of the least one, 2 to the -1074.
-fn scaled(negative: bool, significand: u64, power: u64) -> f64
-    requires { (significand < 2 ^ 53) × (power ≤ 2045) }
-    ensures { Units result negative significand power }
-{
-    if significand == 0 {
-        return of_parts(negative, 0, 0);
+    // The same number with at most 53 bits, or else odd.
+    fn shifted_right(self) -> Scaled
+        requires significand { self.significand < 2 ^ 56 }
+        requires power { self.power ≤ 2030 }
+        ensures same { units_of result ≡ units_of self }
+        ensures narrow { Narrow result.significand }
+        ensures power { result.power ≤ 2045 }
+    {
+        let mut shifted = self;
+        while TOO_LONG <= shifted.significand && shifted.significand % 2 == 0 {
+            shifted.significand /= 2;
+            shifted.power += 1;
+        }
+        shifted
     }
-    let shifted = shifted_left(significand, power);
-    if shifted.significand < LEADING {
-        return of_parts(negative, 0, shifted.significand);
+
+    // The float that it is in units of the least one, 2 to the -1074.
+    fn float(self, negative: bool) -> f64
+        requires significand { self.significand < 2 ^ 53 }
+        requires power { self.power ≤ 2045 }
+        ensures { Units result negative self.significand self.power }
+    {
+        if self.significand == 0 {
+            return of_parts(negative, 0, 0);
+        }
+        let shifted = self.shifted_left();
+        if shifted.significand < LEADING {
+            return of_parts(negative, 0, shifted.significand);
+        }
+        of_parts(negative, shifted.power + 1, shifted.significand - LEADING)
     }
-    of_parts(negative, shifted.power + 1, shifted.significand - LEADING)
 }
 
 // The float of a binary number, which has a 1 before its fraction where the characteristic is not 0, if the characteristic is at most `maximum`. `sign` is
 // the weight of its sign bit, `hidden` that of the 1, and `power` the power of the characteristic 1, which 0 has too.
 fn binary(bits: u64, sign: u64, hidden: u64, maximum: u64, power: u64) -> Option<f64>
-    requires { (0 < sign) × (0 < hidden) × (hidden ≤ 2 ^ 52) × (power ≤ 2045) × (maximum + power ≤ 2046) }
+    requires weights { (0 < sign) × (0 < hidden) × (hidden ≤ 2 ^ 52) }
+    requires powers { (power ≤ 2045) × (maximum + power ≤ 2046) }
     ensures { Binary (nat_le sign bits) (bits % sign / hidden) (bits % hidden) hidden maximum power result }
 {
     let characteristic = bits % sign / hidden;
@@ -109,25 +113,37 @@ fn binary(bits: u64, sign: u64, hidden: u64, maximum: u64, power: u64) -> Option
         return None;
     }
     let fraction = bits % hidden;
-    if characteristic == 0 {
-        return Some(scaled(sign <= bits, fraction, power));
-    }
-    Some(scaled(sign <= bits, hidden + fraction, power + characteristic - 1))
+    let number = if characteristic == 0 {
+        Scaled {
+            significand: fraction,
+            power,
+        }
+    } else {
+        Scaled {
+            significand: hidden + fraction,
+            power: power + characteristic - 1,
+        }
+    };
+    Some(number.float(sign <= bits))
 }
 
 // The float of a hexadecimal number, if the significant bits of its fraction are at most 53. `sign` is the weight of its sign bit, `unit` that of the
 // characteristic's last bit, and `power` the power of the characteristic 0.
 fn hexadecimal(bits: u64, sign: u64, unit: u64, power: u64) -> Option<f64>
-    requires { (0 < sign) × (0 < unit) × (unit ≤ 2 ^ 56) × (4 * (bits % sign / unit) + power ≤ 2030) }
+    requires weights { (0 < sign) × (0 < unit) × (unit ≤ 2 ^ 56) }
+    requires powers { 4 * (bits % sign / unit) + power ≤ 2030 }
     ensures { Hexadecimal (nat_le sign bits) (bits % unit) (4 * (bits % sign / unit) + power) result }
 {
     let characteristic = bits % sign / unit;
-    let fraction = bits % unit;
-    let narrow = shifted_right(fraction, 4 * characteristic + power);
+    let number = Scaled {
+        significand: bits % unit,
+        power: 4 * characteristic + power,
+    };
+    let narrow = number.shifted_right();
     if TOO_LONG <= narrow.significand {
         return None;
     }
-    Some(scaled(sign <= bits, narrow.significand, narrow.power))
+    Some(narrow.float(sign <= bits))
 }
 
 impl Format {

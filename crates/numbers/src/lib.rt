@@ -82,7 +82,8 @@ fn complement(n: u64, h: u64) -> i64
     -1 - (k as i64)
 }
 
-// The whole number of the bytes, most significant first, or last where `reversed`; 0 where there are more than eight.
+// The whole number of the bytes, most significant first, or last where `reversed`. It cannot fail, so more than eight bytes, which no field of whole numbers
+// has, give 0.
 pub fn read(s: &[u8], reversed: bool) -> i64
     ensures { result ≡ whole_up_to_8 s.now reversed }
 {

@@ -2,9 +2,8 @@
 
 #![tactic(auto)]
 
-ghost use Rattle.std.specs.Prelude.{◌≡◌, ◌≤◌, [], ◌∷◌, length, if◌then◌else◌, nat_eq};
-ghost use Rattle.std.proofs.Math.Option.{none};
-ghost use Rattle.fdoca.specs.Basics.{lookup, the};
+ghost use Rattle.std.specs.Prelude.{◌≡◌, ◌≤◌, length};
+ghost use Rattle.fdoca.specs.Basics.{the};
 ghost use Rattle.fdoca.specs.Calls.{read_by};
 ghost use Rattle.fdoca.specs.Returned.{returned};
 ghost use Rattle.values.specs.Reading.{defined_reading, maybe_defined, reading_for, by_length, binary_by};
@@ -12,7 +11,7 @@ ghost use Rattle.values.specs.Reading.{defined_reading, maybe_defined, reading_f
 use fdoca::{Reason, Refusal, Value};
 use floats::Format;
 
-// The plain type codes of what is read: whole numbers, X'24' byte-reversed; hexadecimal floats; binary floats, X'47' byte-reversed.
+// The plain type codes, bytes of the standard, of what is read: whole numbers, X'24' byte-reversed; hexadecimal floats; binary floats, X'47' byte-reversed.
 const INTEGER: u8 = 0x23;
 
 const REVERSED_INTEGER: u8 = 0x24;

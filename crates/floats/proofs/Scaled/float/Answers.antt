@@ -1,9 +1,9 @@
 use borrow.Author.Rules.{rules}
 use Rattle.floats.proofs.Ways.{units_zero, units_small, units_normal}
-use Rattle.floats.proofs.scaled.Goals as goal
+use Rattle.floats.proofs.Scaled.float.Goals as goal
 
-pub returns-then-significand-eq0 : goal.returns-then-significand-eq0
-returns-then-significand-eq0 c = search (rules, units_zero)
+pub returns-then-self-eq0 : goal.returns-then-self-eq0
+returns-then-self-eq0 c = search (rules, units_zero)
 
 pub returns-then-shifted-lt-LEADING : goal.returns-then-shifted-lt-LEADING
 returns-then-shifted-lt-LEADING c = search (rules, units_small)
