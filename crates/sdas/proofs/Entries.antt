@@ -11,7 +11,7 @@ use lib.Dec.{eqb}
 use lib.ListN.{length, get_or, set, drop}
 use lib.Seq.{get_or-take, get_or-drop}
 use borrow.Author.Tests.{ltb-true, eqb-false}
-use mir.Syntax.{w32, w64}
+use mir.Syntax.{w16}
 use mir.Val.{Fits}
 use Rattle.fdoca.specs.Basics.{elem, product}
 use Rattle.fdoca.specs.FieldType.{FieldType, type_of, rule_of}
@@ -85,14 +85,11 @@ module _ (t : List ℕ) (count lower : ℕ) (g : good_sda t ≡ true) (e : count
   least : lower ≤ 4096
   least = omega (arith, lower_most (extents_of t) (good_positive t g))
 
-  pub product_fits : Fits w64 (65536 * lower)
-  product_fits = let h : lower ≤ 4096 = least in record { fits = omega arith }
+  pub count_fits : Fits w16 count
+  count_fits = record { fits = omega arith }
 
-  pub sum_fits : Fits w64 (count + 65536 * lower)
-  sum_fits = let h : lower ≤ 4096 = least in record { fits = omega arith }
-
-  pub size_fits : Fits w32 (count + 65536 * lower)
-  size_fits = let h : lower ≤ 4096 = least in record { fits = omega arith }
+  pub lower_fits : Fits w16 lower
+  lower_fits = let h : lower ≤ 4096 = least in record { fits = omega arith }
 
 -- the mode of a good SDA is its byte 9, and its bias indicator the byte 7; both are 0 or 1
 module _ (t : List ℕ) (long : 12 ≤ length t) (good : good_sda t ≡ true) where
@@ -155,7 +152,8 @@ module _ (t : List ℕ) (x : Shape) (good : good_sda t ≡ true) (ex : x ≡ sha
           let g = field_good t long good T q in
           made_proper (field_of T t) (omega arith) (omega (arith, h)) (omega arith) (omega (arith, mode_known g)) (omega (arith, bias_known g)) g.allowed
 
-pub put_way : (t s z e : List ℕ) (p i count lower entry : ℕ) → i ≡ get_or t 2 0 → i < 256 → lower ≡ lower_of (extents_of t) → count ≡ product (extents_of t)
-    → EntryOf t entry → PutSDA t p s z e (set s i p) (set z i (count + 65536 * lower)) (set e i entry)
-put_way t s z e p i count lower entry ei l el ec x =
-    record { entry = entry; is_entry = x; id_fits = rw ei at l; positions = rw ei; sizes = rw (ei, el, ec); entries = rw ei }
+pub put_way : (t s z e s' z' e' : List ℕ) (p count lower entry : ℕ) → get_or t 2 0 < 256 → lower ≡ lower_of (extents_of t) → count ≡ product (extents_of t)
+    → EntryOf t entry → s' ≡ set s (get_or t 2 0) p → z' ≡ set z (get_or t 2 0) (count + 65536 * lower) → e' ≡ set e (get_or t 2 0) entry
+    → PutSDA t p s z e s' z' e'
+put_way t s z e s' z' e' p count lower entry l el ec x es ez ee =
+    record { entry = entry; is_entry = x; id_fits = l; positions = es; sizes = rw (← el, ← ec) ez; entries = ee }

@@ -6,57 +6,30 @@ ghost use Rattle.std.specs.Prelude.{◌≡◌, ◌*◌, ◌≤◌, ◌<◌, true
 ghost use Rattle.fdoca.specs.Triplet.{code_of, parameters_of, extents_of};
 ghost use Rattle.fdoca.specs.Basics.{product};
 ghost use Rattle.fdoca.specs.Check.{good_length_sda, good_sda};
-ghost use Rattle.field_types.specs.Parameters.{shape_of, no_shape, shape_if};
+ghost use Rattle.field_types.specs.Parameters.{shape_of, shape_if};
 ghost use Rattle.plans.specs.Tied.{lower_of};
 ghost use Rattle.sdas.specs.Judged.{extent_or_1, JudgedSDA};
 ghost use Rattle.sdas.specs.Kept.{EntryOf, PutSDA};
 
+use fdoca::Reason;
 use field_types::Shape;
-use numbers::wide64;
+use tables::Tables;
 
 // The largest count of items.
 pub const MOST: usize = 4096;
 
-// The position of an id that no triplet has described.
-pub const NOWHERE: u16 = 65535;
-
-// What judging an SDA gives: its shape and its item count, or the number of its refusal.
+// What judging an SDA finds: its shape, and how many items it stands for.
 #[derive(Clone, Copy)]
 pub struct Judged {
-    pub number: u8,
     pub shape: Shape,
     pub count: usize,
-}
-
-fn refused(number: u8) -> Judged
-    ensures { result ≡ record { number = number; shape = no_shape; count = 0 } }
-{
-    let shape = field_types::no_shape();
-    Judged {
-        number: number,
-        shape: shape,
-        count: 0,
-    }
 }
 
 // LENGTH of an SDA: 12 plus zero to three extents.
 fn sda_length(t: &[u8]) -> bool
     ensures { result ≡ good_length_sda t.now }
 {
-    let n = t.len();
-    if n == 12 {
-        return true;
-    }
-    if n == 14 {
-        return true;
-    }
-    if n == 16 {
-        return true;
-    }
-    if n == 18 {
-        return true;
-    }
-    false
+    matches!(t.len(), 12 | 14 | 16 | 18)
 }
 
 // The extent at a place of an SDA, or 1 where LENGTH leaves it out.
@@ -85,44 +58,33 @@ fn item_count(t: &[u8]) -> usize
     extent(t, 12) * lower_product(t)
 }
 
-// The shape of an SDA whose id, type, parameters and extents are good, else `no_shape`.
-fn sda_shape(t: &[u8]) -> Shape
+// The shape of an SDA whose id, type, parameters and extents are good.
+fn sda_shape(t: &[u8]) -> Option<Shape>
     requires { good_length_sda t.now ≡ true }
     ensures { result ≡ shape_if (good_sda t.now) (code_of t.now) (parameters_of t.now) }
 {
-    if t[2] == 0 {
-        return field_types::no_shape();
-    }
-    if item_count(t) == 0 {
-        return field_types::no_shape();
+    if t[2] == 0 || item_count(t) == 0 {
+        return None;
     }
     field_types::shape_of(t[3], &t[4..12])
 }
 
-// An SDA's shape and item count, or the number of its refusal.
-pub fn judge_sda(t: &[u8], starts: &[u16; 256]) -> Judged
-    ensures { JudgedSDA t.now starts.now result }
+// An SDA's shape and item count, or the first reason to refuse it.
+pub fn judge_sda(t: &[u8], tables: &Tables) -> Result<Judged, Reason>
+    ensures { JudgedSDA t.now tables.now.starts result }
 {
     if !sda_length(t) {
-        return refused(5);
+        return Err(Reason::BadLength);
     }
-    let shape = sda_shape(t);
-    if shape.layout == field_types::NO_LAYOUT {
-        return refused(6);
+    let shape = sda_shape(t).ok_or(Reason::BadParameter)?;
+    if tables.is_described(t[2]) {
+        return Err(Reason::NameTaken);
     }
-    let id = numbers::wide(t[2]);
-    if starts[id] != NOWHERE {
-        return refused(7);
+    let count = item_count(t);
+    if MOST < count {
+        return Err(Reason::TooManyItems);
     }
-    let n = item_count(t);
-    if MOST < n {
-        return refused(10);
-    }
-    Judged {
-        number: 0,
-        shape: shape,
-        count: n,
-    }
+    Ok(Judged { shape, count })
 }
 
 // The plan's entry for an SDA's field.
@@ -130,8 +92,8 @@ fn plan_entry(t: &[u8], shape: Shape) -> u64
     requires { (good_length_sda t.now ≡ true) × (good_sda t.now ≡ true) × (shape ≡ shape_of (code_of t.now) (parameters_of t.now)) }
     ensures { EntryOf t.now result }
 {
-    let parameters = wide64(t[9]) + 128 * wide64(t[7]);
-    let own = wide64(t[2]) + 256 * (wide64(t[3]) + 256 * parameters);
+    let parameters = u64::from(t[9]) + 128 * u64::from(t[7]);
+    let own = u64::from(t[2]) + 256 * (u64::from(t[3]) + 256 * parameters);
     fields::entry_of(own, shape.layout, shape.size as u64)
 }
 
@@ -140,27 +102,15 @@ fn lower_of(t: &[u8]) -> usize
     requires { good_length_sda t.now ≡ true }
     ensures { result ≡ lower_of (extents_of t.now) }
 {
-    if t.len() == 12 {
-        return 0;
-    }
-    lower_product(t)
+    if t.len() == 12 { 0 } else { lower_product(t) }
 }
 
 // Enters an SDA at p into the tables.
-pub fn put_sda(
-    t: &[u8],
-    p: usize,
-    judged: Judged,
-    starts: &mut [u16; 256],
-    sizes: &mut [u32; 256],
-    entries: &mut [u64; 256],
-)
+pub fn put_sda(t: &[u8], p: usize, judged: Judged, tables: &mut Tables)
     requires { (good_length_sda t.now ≡ true) × (good_sda t.now ≡ true) × (p < 4096) × (judged.count ≡ product (extents_of t.now)) × (judged.count ≤ 4096) × (judged.shape ≡ shape_of (code_of t.now) (parameters_of t.now)) }
-    ensures { PutSDA t.now p starts.old sizes.old entries.old starts.new sizes.new entries.new }
+    ensures { PutSDA t.now p tables.old.starts tables.old.sizes tables.old.entries tables.new.starts tables.new.sizes tables.new.entries }
 {
-    let id = numbers::wide(t[2]);
+    let entry = plan_entry(t, judged.shape);
     let lower = lower_of(t);
-    starts[id] = p as u16;
-    sizes[id] = (judged.count + 65536 * lower) as u32;
-    entries[id] = plan_entry(t, judged.shape);
+    tables.describe(t[2], p as u16, judged.count as u16, lower as u16, entry);
 }

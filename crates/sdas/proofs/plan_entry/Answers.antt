@@ -1,22 +1,15 @@
-use Rattle.sdas.proofs.Sda.{at_least_12, has}
+use native.Mathlib.Omega.{arith}
+use Rattle.sdas.proofs.Sda.{at_least_12}
 use Rattle.sdas.proofs.Entries.{own_small, size_below, entry_way}
-use borrow.Author.Rules.{rules}
 use Rattle.sdas.proofs.plan_entry.Goals as goal
 
-pub bounds-t-9 : goal.bounds-t-9
-bounds-t-9 c = search (rules, has)
-
-pub bounds-t-7 : goal.bounds-t-7
-bounds-t-7 c = search (rules, has)
-
-pub bounds-t-2 : goal.bounds-t-2
-bounds-t-2 c = search (rules, has)
-
-pub bounds-t-3 : goal.bounds-t-3
-bounds-t-3 c = search (rules, has)
-
 pub entry_of-requires : goal.entry_of-requires
-entry_of-requires c = search (rules, size_below, own_small, at_least_12)
+entry_of-requires c = (
+  own_small c.args.t.now (at_least_12 c.args.t.now c.requires.0) c.requires.1 _ _ _ _ c.from.ensures c.from-2.ensures (omega (arith, c.type_inv.t 3)) (omega (arith, c.type_inv.t 2)),
+  size_below c.args.t.now c.args.shape c.requires.1 c.requires.2,
+)
 
 pub returns : goal.returns
-returns c = search (entry_way, at_least_12)
+returns c =
+    entry_way c.args.t.now c.args.shape c.requires.1 c.requires.2 _ _ _ _ _ (at_least_12 c.args.t.now c.requires.0) c.from.ensures c.from-2.ensures c.from-4.ensures
+    (omega (arith, c.type_inv.t 3)) c.from-3.ensures (omega (arith, c.type_inv.t 2)) c.entry_of.ensures
