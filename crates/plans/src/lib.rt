@@ -6,8 +6,9 @@ ghost use Rattle.std.specs.Prelude.{◌≡◌, ◌+◌, ◌-◌, ◌*◌, ◌≤
 ghost use Rattle.std.proofs.lemmas.List.Edits.{sets};
 ghost use Rattle.fdoca.specs.Basics.{repeat};
 ghost use Rattle.fields.specs.Plan.{entry_of};
-ghost use Rattle.plans.specs.Tied.{list_of, kind_of, row_list, Refers, RowAt, Tied, Known};
-ghost use Rattle.plans.specs.Writing.{group_at, group_list, column_list, ColumnAt, entries_taken, end_of_cpt};
+ghost use Rattle.plans.specs.Tied.{list_of, kind_of, groups_at, row_list, Refers, RowAt, Tied, Known};
+ghost use Rattle.plans.specs.Left.{group_of};
+ghost use Rattle.plans.specs.Writing.{group_list, entries_taken};
 
 use tables::Tables;
 
@@ -33,6 +34,7 @@ fn copies(plan: &mut [u64], from: usize, to: usize, more: usize) -> usize
     ensures plan_after { plan.new ≡ sets plan.old to (repeat more (take (to - from) (drop from plan.old))) }
 {
     let n = more * (to - from);
+    // By place: what a copy reads may be what the copy before it wrote.
     for k in 0..n {
         plan[to + k] = plan[from + k];
     }
@@ -49,26 +51,65 @@ pub fn taken_count(tables: &Tables, id: u8, taken: u8) -> usize
     usize::from(taken) * tables.lower(id)
 }
 
-// The end of the CPT at g, if one stands there.
-pub fn cpt_end(desc: &[u8], g: usize) -> Option<usize>
-    requires { g ≤ length desc.now }
-    ensures { result ≡ end_of_cpt desc.now g }
-{
-    if desc.len() - g < 3 || desc[g + 1] != CPT {
-        return None;
-    }
-    Some(g + usize::from(desc[g]))
+// Three bytes of an RLO, a GDA or a CPT: the id of a triplet, and in an RLO elements taken and the repetition factor, in a GDA the length.
+#[derive(Clone, Copy)]
+pub struct Group {
+    pub id: u8,
+    pub byte1: u8,
+    pub byte2: u8,
 }
 
-// Writes the column of a GDA's group at g to `at`, and gives the place behind it: the entry of the SDA's field, with the length that holds.
-fn column(desc: &[u8], tables: &Tables, plan: &mut [u64], g: usize, at: usize) -> usize
-    requires { (g + 3 ≤ length desc.now) × ColumnAt desc.now tables.now.entries g × (at + 1 ≤ length plan.old) }
-    ensures value { result ≡ at + length (column_list desc.now g) }
-    ensures plan_after { plan.new ≡ sets plan.old at (map entry_of (column_list desc.now g)) }
-{
-    let own = tables.field(desc[g]).unwrap();
-    plan[at] = fields::replaced(own, desc[g + 1], desc[g + 2]);
-    at + 1
+// The groups of an RLO or a GDA and of the CPTs right behind it: the bytes behind the groups given so far, `own` of them the triplet's own.
+#[derive(Drop)]
+pub struct Groups<'a> {
+    bytes: &'a [u8],
+    own: usize,
+}
+
+impl<'a> Groups<'a> {
+    ghost use Rattle.plans.specs.Left.{groups_left};
+
+    // The groups of the row at p.
+    pub fn of(desc: &'a [u8], p: usize) -> Groups<'a>
+        requires { p + 3 ≤ length desc.now }
+        ensures { groups_left result ≡ groups_at desc.now p }
+    {
+        Groups {
+            bytes: &desc[p + 3..],
+            own: usize::from(desc[p]).saturating_sub(3),
+        }
+    }
+}
+
+impl<'a> Iterator for Groups<'a> {
+    type Item = Group;
+
+    ghost use Rattle.std.specs.Iterator.{YieldsFirstBy, item_count};
+    ghost use Rattle.plans.specs.Left.{group_of, groups_left};
+
+    ghost next_gives = { YieldsFirstBy group_of groups_left };
+
+    ghost remaining = { item_count groups_left };
+
+    fn next(&mut self) -> Option<Group> {
+        while let [id, byte1, byte2, others @ ..] = self.bytes {
+            if self.own != 0 {
+                self.bytes = others;
+                self.own = self.own.saturating_sub(3);
+                return Some(Group {
+                    id: *id,
+                    byte1: *byte1,
+                    byte2: *byte2,
+                });
+            }
+            if *byte1 != CPT {
+                return None;
+            }
+            self.bytes = others;
+            self.own = usize::from(*id).saturating_sub(3);
+        }
+        None
+    }
 }
 
 // Writes the list of the row at p from `at` on, group by group, and gives the place behind it.
@@ -80,45 +121,47 @@ pub fn expand(desc: &[u8], tables: &Tables, plan: &mut [u64], p: usize, at: usiz
     ensures plan_after { plan.new ≡ sets plan.old at (map entry_of (row_list desc.now p)) }
 {
     let head = desc[p + 1];
-    let mut a = at;
-    let mut g = p + 3;
-    let mut end = p + usize::from(desc[p]);
-    loop {
-        if g < end {
-            a = group(desc, tables, plan, g, a, head);
-        } else {
-            match cpt_end(desc, g) {
-                Some(next) => end = next,
-                None => return a,
-            }
-        }
-        g += 3;
+    let mut end = at;
+    for group in Groups::of(desc, p) {
+        end = write_group(desc, tables, plan, group, end, head);
     }
+    end
 }
 
-// Writes the list of the group at g from `at` on, and gives the place behind it. `head` is the construct type of the row's head. A row that
+// Writes the list of a group from `at` on, and gives the place behind it. `head` is the construct type of the row's head. A row that
 // the group refers to is written by going down to it once; its repetitions are copies. A factor of 0 adds nothing (document 02, Q-5).
+// What a group of a GDA writes is the entry of the SDA's field, with the length that holds.
 #[cycle(expand_group)]
-fn group(desc: &[u8], tables: &Tables, plan: &mut [u64], g: usize, at: usize, head: u8) -> usize
-    requires { Tied desc.now tables.now.starts tables.now.sizes tables.now.entries × (g + 3 ≤ length desc.now)
-        × Refers (kind_of head) desc.now tables.now.starts (length desc.now) (group_at desc.now g)
-        × (at + length (group_list desc.now (kind_of head) g) ≤ length plan.old) }
-    ensures value { result ≡ at + length (group_list desc.now (kind_of head) g) }
-    ensures plan_after { plan.new ≡ sets plan.old at (map entry_of (group_list desc.now (kind_of head) g)) }
+fn write_group(
+    desc: &[u8],
+    tables: &Tables,
+    plan: &mut [u64],
+    group: Group,
+    at: usize,
+    head: u8,
+) -> usize
+    requires { Tied desc.now tables.now.starts tables.now.sizes tables.now.entries
+        × Refers (kind_of head) desc.now tables.now.starts (length desc.now) (group_of group)
+        × (at + length (group_list desc.now (kind_of head) (group_of group)) ≤ length plan.old) }
+    ensures value { result ≡ at + length (group_list desc.now (kind_of head) (group_of group)) }
+    ensures plan_after { plan.new ≡ sets plan.old at (map entry_of (group_list desc.now (kind_of head) (group_of group))) }
 {
     if head == GDA {
-        return column(desc, tables, plan, g, at);
+        let own = tables.field(group.id).unwrap();
+        plan[at] = fields::replaced(own, group.byte1, group.byte2);
+        return at + 1;
     }
-    let id = desc[g];
-    let taken = desc[g + 1];
-    let factor = usize::from(desc[g + 2]);
+    let factor = usize::from(group.byte2);
     if factor == 0 {
         return at;
     }
-    match tables.field(id) {
-        Some(entry) => fill(plan, at, factor * taken_count(tables, id, taken), entry),
+    match tables.field(group.id) {
+        Some(entry) => {
+            let n = factor * taken_count(tables, group.id, group.byte1);
+            fill(plan, at, n, entry)
+        }
         None => {
-            let once = expand(desc, tables, plan, tables.start(id), at);
+            let once = expand(desc, tables, plan, tables.start(group.id), at);
             copies(plan, at, once, factor - 1)
         }
     }

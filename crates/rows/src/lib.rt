@@ -7,9 +7,11 @@ ghost use Rattle.std.proofs.lemmas.List.Edits.{sets};
 ghost use Rattle.fields.specs.Plan.{entry_of};
 ghost use Rattle.fdoca.specs.Unfolding.{endless};
 ghost use Rattle.plans.specs.Tied.{list_of, kind_of, row_list, Refers, RowAt, Tied, Known};
-ghost use Rattle.plans.specs.Writing.{group_at, group_list};
-ghost use Rattle.rows.specs.Pass.{pass_list, PassAt, Room, TiedSome, no_data};
+ghost use Rattle.plans.specs.Left.{group_of};
+ghost use Rattle.plans.specs.Writing.{group_list, RefersRow};
+ghost use Rattle.rows.specs.Pass.{layout_list, pass_list, PassAt, Room, TiedSome, no_data};
 
+use plans::{Group, Groups};
 use tables::Tables;
 
 // Writes one pass over the layout of the group at g, from the plan's beginning on, cut at the plan's end, and gives the items of a whole pass.
@@ -71,48 +73,50 @@ fn endless_row(desc: &[u8], tables: &Tables, p: usize) -> bool
     ensures { result ≡ endless (row_list desc.now p) }
 {
     let head = desc[p + 1];
-    let mut g = p + 3;
-    let mut end = p + usize::from(desc[p]);
-    loop {
-        if g < end {
-            if !endless_group(desc, tables, g, head) {
-                return false;
-            }
-        } else {
-            match plans::cpt_end(desc, g) {
-                Some(next) => end = next,
-                None => return true,
-            }
+    for group in Groups::of(desc, p) {
+        if !endless_group(desc, tables, group, head) {
+            return false;
         }
-        g += 3;
     }
+    true
 }
 
-// `endless` of the fields that the group at g adds. `head` is the construct type of the row's head. Repetitions do not matter, but for 0, which adds
+// `endless` of the fields that a group adds. `head` is the construct type of the row's head. Repetitions do not matter, but for 0, which adds
 // no field.
 #[cycle(no_data_rows)]
-fn endless_group(desc: &[u8], tables: &Tables, g: usize, head: u8) -> bool
-    requires { TiedSome desc.now tables.now.starts tables.now.entries × (g + 3 ≤ length desc.now)
-        × Refers (kind_of head) desc.now tables.now.starts (length desc.now) (group_at desc.now g) }
-    ensures { result ≡ endless (group_list desc.now (kind_of head) g) }
+fn endless_group(desc: &[u8], tables: &Tables, group: Group, head: u8) -> bool
+    requires { TiedSome desc.now tables.now.starts tables.now.entries
+        × Refers (kind_of head) desc.now tables.now.starts (length desc.now) (group_of group) }
+    ensures { result ≡ endless (group_list desc.now (kind_of head) (group_of group)) }
 {
     if head == plans::GDA {
-        let own = tables.field(desc[g]).unwrap();
-        return no_data(fields::replaced(own, desc[g + 1], desc[g + 2]));
+        let own = tables.field(group.id).unwrap();
+        return no_data(fields::replaced(own, group.byte1, group.byte2));
     }
-    desc[g + 2] == 0 || endless(desc, tables, g)
+    group.byte2 == 0 || endless_layout(desc, tables, group)
 }
 
-// Whether every item of the layout of the group at g is an X'01' that is not nullable and has F 0, so that a pass would take no data. Elements taken
-// do not matter: an SDA has an item at least.
+// `endless` of the layout of a group. Elements taken do not matter: an SDA has an item at least.
 #[cycle(no_data_rows)]
+fn endless_layout(desc: &[u8], tables: &Tables, group: Group) -> bool
+    requires { TiedSome desc.now tables.now.starts tables.now.entries × RefersRow desc.now (group_of group) }
+    ensures { result ≡ endless (layout_list desc.now (group_of group)) }
+{
+    match tables.field(group.id) {
+        Some(entry) => no_data(entry),
+        None => endless_row(desc, tables, tables.start(group.id)),
+    }
+}
+
+// Whether every item of the layout of the group at g is an X'01' that is not nullable and has F 0, so that a pass would take no data.
 pub fn endless(desc: &[u8], tables: &Tables, g: usize) -> bool
     requires { TiedSome desc.now tables.now.starts tables.now.entries × PassAt desc.now g }
     ensures { result ≡ endless (pass_list desc.now g) }
 {
-    let id = desc[g];
-    match tables.field(id) {
-        Some(entry) => no_data(entry),
-        None => endless_row(desc, tables, tables.start(id)),
-    }
+    let group = Group {
+        id: desc[g],
+        byte1: desc[g + 1],
+        byte2: desc[g + 2],
+    };
+    endless_layout(desc, tables, group)
 }
