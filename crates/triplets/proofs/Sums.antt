@@ -1,6 +1,6 @@
 -- One group of a row: the refusals in order, and the count with it.
 -- Assumes nothing.
-use Rattle.std.proofs.Common.{◌≡◌, refl, ℕ, ◌+◌, ◌*◌, ◌≤◌, ◌<◌, ◌⊎◌, inl, inr, Bool, true, false, not, ◌&&◌, ltb, eqb, ne_eqb, get_or, Some, None, Result, Err, IfOk}
+use Rattle.std.proofs.Common.{◌≡◌, refl, ap, arith, ℕ, ◌+◌, ◌*◌, ◌≤◌, ◌<◌, Bool, true, false, not, ◌&&◌, ltb, eqb, ne_eqb, get_or, Some, None, Result, Ok, Err, IfOk, le-ltb}
 use Rattle.std.proofs.Math.Option.{none, some}
 use Rattle.std.proofs.Math.Option as defined
 use Rattle.fdoca.specs.declared.Reason.{Reason}
@@ -41,26 +41,32 @@ of_some : {A : Type 0} (a : A) (x : defined.Option A) → Some a ≡ option_of x
 of_some a none e = absurd cc
 of_some a (some b) e = cc
 
--- repetition 0 is carried where the group ends the descriptor, and any other everywhere
-pub carried : (factor : ℕ) (ends : Bool) → ((factor ≡ 0) × (ends ≡ true)) ⊎ (factor ≡ 0 → ⊥) → (eqb factor 0 && not ends) ≡ false
-carried factor ends (inl h) = rw (h.0, h.1)
-carried factor ends (inr h) = rw (ne_eqb factor 0 h)
+-- another repetition than 0 is carried everywhere
+pub carried : (factor : ℕ) (ends : Bool) → (factor ≡ 0 → ⊥) → (eqb factor 0 && not ends) ≡ false
+carried factor ends h = rw (ne_eqb factor 0 h)
 
 -- a group of an RLO
-module _ (ends : Bool) (l : Lists) (id taken factor sum : ℕ) where
-  -- 9: repetition 0 where the group does not end the descriptor
-  pub too_early : factor ≡ 0 → ends ≡ false → Counted rlo ends l id taken factor sum (Err NotCarried)
-  unfolding add_group count_added
-  too_early f e = record { result = λ p y k. rw (f, e); small = tt }
-
+module _ (ends : Bool) (l : Lists) (id taken factor sum : ℕ) (carried : (eqb factor 0 && not ends) ≡ false) where
   -- 9: elements taken of what has no extents
-  pub none_taken : (eqb factor 0 && not ends) ≡ false → ItemsTaken l id taken None → Counted rlo ends l id taken factor sum (Err NotCarried)
+  pub none_taken : ItemsTaken l id taken None → Counted rlo ends l id taken factor sum (Err NotCarried)
   unfolding add_group count_added
-  none_taken f t = record { result = λ p y k. rw (f, of_none (count_taken taken y) (t.result y k)); small = tt }
+  none_taken t = record { result = λ p y k. rw (carried, of_none (count_taken taken y) (t.result y k)); small = tt }
 
-  pub some_taken : (n : ℕ) → (eqb factor 0 && not ends) ≡ false → ItemsTaken l id taken (Some n) → Counted rlo ends l id taken factor sum (summed sum (factor * n))
+  pub some_taken : (n : ℕ) → ItemsTaken l id taken (Some n) → Counted rlo ends l id taken factor sum (summed sum (factor * n))
   unfolding count_added
-  some_taken n f t = more_items rlo ends l id taken factor sum (factor * n) (λ p y k. rw (f, of_some n (count_taken taken y) (t.result y k)))
+  some_taken n t = more_items rlo ends l id taken factor sum (factor * n) (λ p y k. rw (carried, of_some n (count_taken taken y) (t.result y k)))
+
+-- a group of repetition 0
+module _ (l : Lists) (id taken sum : ℕ) where
+  -- 9: the group does not end the descriptor
+  pub too_early : (ends : Bool) → ends ≡ false → Counted rlo ends l id taken 0 sum (Err NotCarried)
+  unfolding add_group count_added
+  too_early ends e = record { result = λ p y k. rw e; small = tt }
+
+  pub rows_taken : (ends : Bool) (n : ℕ) → ends ≡ true → sum ≤ 4096 → ItemsTaken l id taken (Some n) → Counted rlo ends l id taken 0 sum (Ok sum)
+  rows_taken ends n e h t =
+      let same : summed sum (0 * n) ≡ Ok sum = rw (le-ltb 4096 (sum + 0 * n) (omega arith)) (ap Ok (omega arith)) in
+      rw (← same) (some_taken ends l id taken 0 sum (rw e) n t)
 
 -- a group of a GDA
 module _ (l : Lists) (id a b sum : ℕ) (ends : Bool) where

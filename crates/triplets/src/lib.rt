@@ -5,7 +5,6 @@
 ghost use Rattle.std.specs.Prelude.{◌≡◌, ◌≤◌, Bool, true};
 ghost use Rattle.fdoca.specs.Triplet.{rlo, gda, groups_of};
 ghost use Rattle.fdoca.specs.Check.{good_length_row, good_length_isd, good_isd};
-ghost use Rattle.sdas.specs.Tables.{Agreeing};
 ghost use Rattle.plans.specs.Tied.{kind_of};
 ghost use Rattle.triplets.specs.Judged.{summed, ItemsTaken, FitsColumn, Counted, AddedGroup, AddedGroups, JudgedRow, JudgedCPT, JudgedISD};
 
@@ -49,8 +48,22 @@ fn items_taken(tables: &Tables, id: u8, taken: u8) -> Option<usize>
     }
 }
 
-// The count of an RLO with one more group, which refers to a described id. Repetition factor 0 is carried where the group `ends` the descriptor, and
-// the group then adds nothing (document 02, Q-5).
+// The count of an RLO with one more group, of repetition factor 0, which refers to a described id: 0 is carried where the group `ends` the descriptor,
+// and the group then adds nothing (document 02, Q-5). It has a function of its own, since asking for `ends` at each group takes time.
+fn add_rows(tables: &Tables, id: u8, taken: u8, sum: usize, ends: bool) -> Result<usize, Reason>
+    requires { sum ≤ 4096 }
+    ensures { Counted rlo ends tables.now id taken 0 sum result }
+{
+    if !ends {
+        return Err(Reason::NotCarried);
+    }
+    match items_taken(tables, id, taken) {
+        Some(_) => Ok(sum),
+        None => Err(Reason::NotCarried),
+    }
+}
+
+// The count of an RLO with one more group, which refers to a described id.
 fn add_elements(
     tables: &Tables,
     id: u8,
@@ -62,8 +75,8 @@ fn add_elements(
     requires { sum ≤ 4096 }
     ensures { Counted rlo ends tables.now id taken factor sum result }
 {
-    if factor == 0 && !ends {
-        return Err(Reason::NotCarried);
+    if factor == 0 {
+        return add_rows(tables, id, taken, sum, ends);
     }
     let items = items_taken(tables, id, taken).ok_or(Reason::NotCarried)?;
     total(sum, usize::from(factor) * items)
@@ -138,7 +151,6 @@ fn add_groups<const HEAD: u8>(
 // The count of an RLO or a GDA. `last` tells whether it is the descriptor's last triplet.
 #[tactic(auto, unfolding(fdoca::specs::Check::check_row))]
 pub fn judge_row(t: &[u8], last: bool, tables: &Tables) -> Result<usize, Reason>
-    requires { Agreeing tables.now.starts tables.now.sizes tables.now.entries }
     ensures { JudgedRow last t.now tables.now result }
 {
     if !row_length(t) {
@@ -165,7 +177,7 @@ pub fn judge_cpt(
     tables: &Tables,
     sum: usize,
 ) -> Result<usize, Reason>
-    requires { Agreeing tables.now.starts tables.now.sizes tables.now.entries × (sum ≤ 4096) }
+    requires { sum ≤ 4096 }
     ensures { JudgedCPT (kind_of head) last t.now tables.now sum result }
 {
     if !row_length(t) {

@@ -1,11 +1,8 @@
 use Rattle.std.proofs.Common.{◌≡◌, None, Some, Err, arith}
 use Rattle.std.proofs.lemmas.Result.{err_from_is_err_and}
 use Rattle.fdoca.specs.declared.Reason.TheVariants.{NotCarried}
-use Rattle.triplets.proofs.Sums.{too_early, none_taken, some_taken, carried}
+use Rattle.triplets.proofs.Sums.{none_taken, some_taken, carried}
 use Rattle.triplets.proofs.add_elements.Goals as goal
-
-pub returns-then-not-ends : goal.returns-then-not-ends
-returns-then-not-ends c = search too_early
 
 pub returns-in_err-items : goal.returns-in_err-items
 returns-in_err-items c =
@@ -13,9 +10,9 @@ returns-in_err-items c =
     let p = err_from_is_err_and c.from_residual.result c.from_residual.ensures.1 in
     let refused : c.ok_or.result ≡ Err p.0 = rw p.2 c.in_err-items.was in
     let same : p.0 ≡ NotCarried = grind arith in
-    rw (p.1, same) (none_taken _ _ _ _ _ _ (carried _ _ c.else-factor-eq0.either) (rw none at c.items_taken.ensures))
+    rw (p.1, same) (none_taken _ _ _ _ _ _ (carried _ _ c.if-factor-eq0.false) (rw none at c.items_taken.ensures))
 
 pub returns : goal.returns
 returns c =
     let some : c.items_taken.result ≡ Some c.in_ok-items.items = grind arith in
-    rw (c.total.ensures, c.from.ensures) (some_taken _ _ _ _ _ _ _ (carried _ _ c.else-factor-eq0.either) (rw some at c.items_taken.ensures))
+    rw (c.total.ensures, c.from.ensures) (some_taken _ _ _ _ _ _ (carried _ _ c.if-factor-eq0.false) _ (rw some at c.items_taken.ensures))
