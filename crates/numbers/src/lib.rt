@@ -42,7 +42,7 @@ pub fn least(a: usize, b: usize) -> usize
     b
 }
 
-// The byte at `i`, counted from the most significant one.
+// The byte at `i`, counted from the most significant one. By an index, since the bytes forwards and backwards would be iterators of two types.
 fn digit(s: &[u8], reversed: bool, i: usize) -> u8
     requires { i < length s.now }
     ensures { result ≡ get_or (ordered s.now reversed) i 0 }
