@@ -6,7 +6,7 @@ ghost use Rattle.std.specs.Prelude.{◌≡◌, ◌+◌, ◌-◌, ◌*◌, ◌≤
 ghost use Rattle.std.proofs.lemmas.List.Edits.{sets};
 ghost use Rattle.fdoca.specs.Basics.{repeat};
 ghost use Rattle.fields.specs.Plan.{entry_of};
-ghost use Rattle.plans.specs.Tied.{list_of, kind_of, groups_at, row_list, Refers, RowAt, Tied, Known};
+ghost use Rattle.plans.specs.Tied.{list_of, kind_of, groups_at, row_list, Refers, RowAt, TiedTo, Known};
 ghost use Rattle.plans.specs.Left.{group_of};
 ghost use Rattle.plans.specs.Writing.{group_list, entries_taken};
 
@@ -115,7 +115,7 @@ impl<'a> Iterator for Groups<'a> {
 // Writes the list of the row at p from `at` on, group by group, and gives the place behind it.
 #[cycle(expand_group)]
 pub fn expand(desc: &[u8], tables: &Tables, plan: &mut [u64], p: usize, at: usize) -> usize
-    requires { Tied desc.now tables.now.starts tables.now.sizes tables.now.entries × RowAt desc.now tables.now.starts p (row_list desc.now p)
+    requires { TiedTo desc.now tables.now × RowAt desc.now tables.now.starts p (row_list desc.now p)
         × (at + length (row_list desc.now p) ≤ length plan.old) }
     ensures value { result ≡ at + length (row_list desc.now p) }
     ensures plan_after { plan.new ≡ sets plan.old at (map entry_of (row_list desc.now p)) }
@@ -140,7 +140,7 @@ fn write_group(
     at: usize,
     head: u8,
 ) -> usize
-    requires { Tied desc.now tables.now.starts tables.now.sizes tables.now.entries
+    requires { TiedTo desc.now tables.now
         × Refers (kind_of head) desc.now tables.now.starts (length desc.now) (group_of group)
         × (at + length (group_list desc.now (kind_of head) (group_of group)) ≤ length plan.old) }
     ensures value { result ≡ at + length (group_list desc.now (kind_of head) (group_of group)) }
@@ -169,7 +169,7 @@ fn write_group(
 
 // Writes the list of the id, from the plan's beginning on.
 pub fn write(desc: &[u8], tables: &Tables, plan: &mut [u64], id: u8)
-    requires { Tied desc.now tables.now.starts tables.now.sizes tables.now.entries × Known desc.now id
+    requires { TiedTo desc.now tables.now × Known desc.now id
         × (length (list_of desc.now id) ≤ length plan.old) }
     ensures { plan.new ≡ sets plan.old 0 (map entry_of (list_of desc.now id)) }
 {

@@ -1,7 +1,7 @@
 -- One pass over a layout, by what the group's id describes; and the plan with what stands before it.
 -- Assumes nothing.
 use mathlib.Core.Path.{◌≡◌, sym, ap, ◌∙◌}
-use mathlib.Core.List.{List, [], ◌∷◌, ◌++◌, map, map-append}
+use mathlib.Core.List.{List, ◌++◌, map, map-append}
 use Prim.Native.Nat.{ℕ, ◌+◌, ◌-◌, ◌≤◌, ◌<◌, min}
 use native.Mathlib.Omega.{arith}
 use lib.ListN.{length, get_or, take, replicate, length-map}
@@ -61,15 +61,6 @@ module _ (d s z e : List ℕ) (g : ℕ) (tied : Tied d s z e) (k : PassAt d g) w
 -- ---- `write`
 
 module _ (plan : List ℕ) (l m : List Field) where
-  -- no field before
-  pub nothing_before : (plan₁ : List ℕ) (before : ℕ) → before ≡ length l → before ≡ 0 → plan₁ ≡ sets plan 0 (take (length plan) (map entry_of m))
-      → plan₁ ≡ sets plan 0 (take (length plan) (map entry_of (l ++ m)))
-  nothing_before plan₁ before e z u = go l (sym e ∙ z)
-    where
-      go : (l : List Field) → length l ≡ 0 → plan₁ ≡ sets plan 0 (take (length plan) (map entry_of (l ++ m)))
-      go [] q = u
-      go (f ∷ l) q = absurd (omega arith)
-
   module _ (before : ℕ) (e : before ≡ length l) (room : before ≤ length plan) where
     pub moved_behind : (plan₁ plan₂ plan₃ : List ℕ) (n q : ℕ) → plan₁ ≡ sets plan 0 (take (length plan) (map entry_of m)) → n ≡ length m
         → q ≡ min n (length plan₁ - before) → length plan₁ ≡ length plan → plan₂ ≡ sets plan₁ before (take q plan₁) → plan₃ ≡ sets plan₂ 0 (map entry_of l)

@@ -6,7 +6,7 @@ ghost use Rattle.std.specs.Prelude.{◌≡◌, ◌+◌, ◌≤◌, ◌<◌, map,
 ghost use Rattle.std.proofs.lemmas.List.Edits.{sets};
 ghost use Rattle.fields.specs.Plan.{entry_of};
 ghost use Rattle.fdoca.specs.Unfolding.{endless};
-ghost use Rattle.plans.specs.Tied.{list_of, kind_of, row_list, Refers, RowAt, Tied, Known};
+ghost use Rattle.plans.specs.Tied.{list_of, kind_of, row_list, Refers, RowAt, TiedTo, Known};
 ghost use Rattle.plans.specs.Left.{group_of};
 ghost use Rattle.plans.specs.Writing.{group_list, RefersRow};
 ghost use Rattle.rows.specs.Pass.{layout_list, pass_list, PassAt, Room, TiedSome, no_data};
@@ -16,7 +16,7 @@ use tables::Tables;
 
 // Writes one pass over the layout of the group at g, from the plan's beginning on, cut at the plan's end, and gives the items of a whole pass.
 fn pass(desc: &[u8], tables: &Tables, plan: &mut [u64], g: usize) -> usize
-    requires { Tied desc.now tables.now.starts tables.now.sizes tables.now.entries × PassAt desc.now g × Room desc.now tables.now.entries g (length plan.old)
+    requires { TiedTo desc.now tables.now × PassAt desc.now g × Room desc.now tables.now.entries g (length plan.old)
         × (length plan.old ≤ 4096) }
     ensures value { (result ≡ length (pass_list desc.now g)) × (result < 16777216) }
     ensures plan_after { plan.new ≡ sets plan.old 0 (take (length plan.old) (map entry_of (pass_list desc.now g))) }
@@ -42,7 +42,7 @@ pub fn write(
     before: usize,
     g: usize,
 ) -> usize
-    requires { Tied desc.now tables.now.starts tables.now.sizes tables.now.entries × Known desc.now id × PassAt desc.now g
+    requires { TiedTo desc.now tables.now × Known desc.now id × PassAt desc.now g
         × Room desc.now tables.now.entries g (length plan.old) × (before ≡ length (list_of desc.now id)) × (before ≤ length plan.old)
         × (length plan.old ≤ 4096) }
     ensures value { (result ≡ length (pass_list desc.now g)) × (result < 16777216) }
