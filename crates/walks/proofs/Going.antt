@@ -180,3 +180,5 @@ module _ (e : ℕ) (s : List ℕ) (at : ℕ) (l : Layout) (q : l ≡ numbered (e
       go : (r : code.Result Measured Reason) → measured r ≡ measure_entry e (drop at s) → IfOk r (Inside s at)
       go (Err x) h = tt
       go (Ok m) h = lies_inside e s at m k h
+
+pub ruleset place_ways = (place_measured, place_inside)

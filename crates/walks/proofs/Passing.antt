@@ -89,6 +89,8 @@ module _ (es : List ℕ) (before k m : ℕ) (apart : Apart before m k) (room : k
     pub all_copied : m ≤ i → es' ≡ paste es k source m
     all_copied h = let e : i ≡ m = omega (arith, w.within) in rw (← e) w.copied
 
+pub ruleset copy_ways = (none_copied, one_copied, all_copied)
+
 -- ---- entries and their marks
 
 module _ {A B : Type 0} (f : A → B) where

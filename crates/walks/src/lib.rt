@@ -47,6 +47,7 @@ const LEAD: usize = 1048576;
 const SPARE: usize = 68719476736;
 
 // The item at a place of the data, by its entry in the plan. It lies within the data.
+#[tactic(auto, using(crate::proofs::Going::place_ways))]
 pub fn item_at(entry: u64, data: &[u8], at: usize) -> Result<Measured, Reason>
     requires { at ≤ length «data».now }
     ensures measured { measured result ≡ measure_entry entry (drop at «data».now) }
@@ -139,6 +140,7 @@ pub fn mark(plan: &mut [u64], data: &[u8]) -> Result<(), Refusal>
 }
 
 // Copies the first m entries of a pass, which stand from `before` on, to the places from k on, without their marks.
+#[tactic(auto, using(crate::proofs::Passing::copy_ways))]
 fn copy_pass(plan: &mut [u64], before: usize, k: usize, m: usize)
     requires { Apart before m k × (k + m ≤ length plan.old) }
     ensures { plan.new ≡ paste plan.old k (unmarked (drop before plan.old)) m }
@@ -204,6 +206,7 @@ fn start_in(entry: u64) -> u32
 }
 
 // The item list by a marked plan: the count, the block's length, the positions, the ids.
+#[tactic(auto, using(crate::proofs::Writing::write_ways))]
 pub fn write_list(plan: &[u64], size: usize, list: &mut [u32])
     requires { (2 + 2 * length plan.now ≤ length list.old) × ((length plan.now ≤ 4096) × (size ≤ 32768)) }
     ensures { list.new ≡ list_by plan.now size list.old }
