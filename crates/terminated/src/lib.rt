@@ -33,10 +33,26 @@ impl Measured {
 }
 
 // Where the first zero byte stands.
-fn first_zero(s: &[u8]) -> Option<usize>
+fn zero_in(s: &[u8]) -> Option<usize>
     ensures { result ≡ position (λ b. b == 0) s.now }
 {
     s.iter().position(|b| *b == 0)
+}
+
+// The same, four bytes at a time, since for long values `zero_in` takes half as long again.
+#[tactic(auto, using(crate::proofs::Fours::fours))]
+fn first_zero(s: &[u8]) -> Option<usize>
+    ensures { result ≡ position (λ b. b == 0) s.now }
+{
+    let mut i = 0;
+    while 4 <= s.len() - i {
+        if let Some(k) = zero_in(&[s[i], s[i + 1], s[i + 2], s[i + 3]]) {
+            return Some(i + k);
+        }
+        i += 4;
+    }
+    let k = zero_in(&s[i..])?;
+    Some(i + k)
 }
 
 // F = 0: the item ends with the first zero byte.
