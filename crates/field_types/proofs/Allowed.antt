@@ -18,6 +18,7 @@ use Rattle.fdoca.specs.FieldType.{FieldType, fixed_bytes, variable_bytes, termin
 use Rattle.fdoca.specs.FieldType as definition
 use Rattle.fdoca.specs.Triplet.{bias_of, mode_of, size_in}
 use Rattle.fdoca.specs.Check.{most, good_parameters, good_type, suits_type, good_column}
+use Rattle.fdoca.proofs.Account.{big_two}
 use Rattle.field_types.specs.declared.Sizes.{Sizes}
 use Rattle.field_types.specs.declared.Sizes.TheVariants.{UpTo, Two, Three, DigitsUpTo}
 use Rattle.field_types.specs.declared.Rule.{Rule}
@@ -33,7 +34,7 @@ or_if : (b : Bool) → b ≡ (if b then true else false)
 or_if true = refl
 or_if false = refl
 
--- the ways through `size_allowed`
+-- the ways through `Sizes::allow`
 module _ (z : Sizes) (F : ℕ) where
   pub by_top : (n : ℕ) → z ≡ UpTo n → leb F n ≡ allows_number (sizes_of z) F
   unfolding sizes_of allows_number
@@ -62,7 +63,7 @@ tested : (b : Bool) (x n : ℕ) → n ≡ bool_byte b → leb x n ≡ leb x (mos
 tested true x n e = rw e
 tested false x n e = rw e
 
--- the ways through `rule_allows`
+-- the ways through `Rule::allows`
 module _ (r : Rule) (bias mode size n : ℕ) (e : n ≡ bool_byte r.has_bias) where
   pub bias_over : n < bias → false ≡ rule_allows r bias mode size
   unfolding rule_allows
@@ -104,12 +105,21 @@ no_default (some reversed_float) = tt
 no_default (some binary_float) = tt
 
 -- the size that holds, by its two bytes as one number
-module _ (r : definition.Rule) (ps : List ℕ) (a b size : ℕ) (low : b < 256) (ea : a ≡ get_or ps 6 0) (eb : b ≡ get_or ps 7 0) (es : size ≡ length_that_holds r.default (a * 256 + b)) where
+module _ (r : definition.Rule) (ps : List ℕ) (n size : ℕ) (low : get_or ps 7 0 < 256) (e : n ≡ big (get_or ps 6 0 ∷ get_or ps 7 0 ∷ [])) (es : size ≡ length_that_holds r.default n) where
   abbrev Held : definition.Sizes → Size → Type 0
   Held z s = (size ≡ size_number s) × (size_of z (size / 256) (size % 256) ≡ s)
 
+  abbrev a : ℕ
+  a = get_or ps 6 0
+
+  abbrev b : ℕ
+  b = get_or ps 7 0
+
+  is_two_lem : n ≡ a * 256 + b
+  is_two_lem = e ∙ big_two a b
+
   held : NoDefault r.sizes r.default → Held r.sizes (size_in r ps)
-  held h = rw (← ea, ← eb) (go r.sizes r.default h es)
+  held h = go r.sizes r.default h (rw is_two_lem at es)
     where
       go : (z : definition.Sizes) (o : defined_option.Option ℕ) → NoDefault z o → size ≡ length_that_holds o (a * 256 + b)
           → Held z (definition.size_that_holds (record { layout = r.layout; sizes = z; default = o; has_mode = r.has_mode; has_bias = r.has_bias }) (size_of z a b))
@@ -194,7 +204,7 @@ module _ (code : ℕ) (ps : List ℕ) where
       go none k = simp and-false
       go (some T) k = elim k [ ]
 
-  module _ (r : Rule) (s : StandsFor (type_of code) (Some r)) (a b size : ℕ) (ea : a ≡ get_or ps 6 0) (eb : b ≡ get_or ps 7 0) (low : b < 256) (es : size ≡ length_that_holds (given r.default) (a * 256 + b)) where
+  module _ (r : Rule) (s : StandsFor (type_of code) (Some r)) (n size : ℕ) (e : n ≡ big (get_or ps 6 0 ∷ get_or ps 7 0 ∷ [])) (low : get_or ps 7 0 < 256) (es : size ≡ length_that_holds (given r.default) n) where
     abbrev rule : definition.Rule
     rule = rule_for (type_of code)
 
@@ -202,48 +212,50 @@ module _ (code : ℕ) (ps : List ℕ) where
     is = is_rule (type_of code) r s
 
     size_is : (size ≡ size_number (size_in rule ps)) × (size_of rule.sizes (size / 256) (size % 256) ≡ size_in rule ps)
-    size_is = held rule ps a b size low ea eb (rw is.default at es) (no_default (type_of code))
+    size_is = held rule ps n size low e (rw is.default at es) (no_default (type_of code))
 
     pub told_by_rule : (z : Bool) (bias : ℕ) (g answer : Bool) → length ps ≡ 8 → z ≡ unused_zero ps → z ≡ true → bias ≡ big (get_or ps 2 0 ∷ get_or ps 3 0 ∷ [])
         → g ≡ rule_allows r bias (get_or ps 5 0) size → g ≡ answer → good_eight code ps ≡ answer
     unfolding rule_allows allows_number
-    told_by_rule z bias g answer h e t i d x =
+    told_by_rule z bias g answer h u t i d x =
         let asked : g ≡ allowed rule bias (get_or ps 5 0) (size_in rule ps) = d ∙ rw (is.has_bias, is.has_mode, is.sizes, size_is.1) refl in
-        good_eight_lem code ps h ∙ by_parts (type_of code) ps ∙ rw (← e, t, bias_read ps h, ← i) (sym asked ∙ x)
+        good_eight_lem code ps h ∙ by_parts (type_of code) ps ∙ rw (← u, t, bias_read ps h, ← i) (sym asked ∙ x)
 
     pub by_shape : (good : Bool) → good ≡ true → Some (record { layout = r.layout; size = size }) ≡ shape_if good code ps
     unfolding shape_if shape_of layout_for
     by_shape good h = rw (h, is.layout, ← size_is.0) refl
 
--- the ways through `good_length`, a and b being the numbers that the bytes p and q are
-module _ (code p q a b : ℕ) (ea : a ≡ p) (eb : b ≡ q) where
-  pub replaces_nothing : a * 256 + b ≡ 0 → true ≡ good_column code p q
+-- the ways through `good_length`, n being the number that the bytes a and b are
+module _ (code a b n : ℕ) (e : n ≡ big (a ∷ b ∷ [])) where
+  is_two : n ≡ a * 256 + b
+  is_two = e ∙ big_two a b
+
+  pub replaces_nothing : n ≡ 0 → true ≡ good_column code a b
   unfolding good_column
-  replaces_nothing e = rw (← ea, ← eb, le-ltb 0 (a * 256 + b) (omega arith))
+  replaces_nothing h = rw (← is_two, le-ltb 0 n (omega arith))
 
-  module _ (above : a * 256 + b ≡ 0 → ⊥) where
-    judged : suits_type (type_of code) a b ≡ good_column code p q
+  module _ (above : n ≡ 0 → ⊥) where
+    judged : suits_type (type_of code) a b ≡ good_column code a b
     unfolding good_column
-    judged = rw (← ea, ← eb, lt-ltb 0 (a * 256 + b) (omega (arith, above)))
+    judged = rw (← is_two, lt-ltb 0 n (omega (arith, above)))
 
-    pub suits_none : StandsFor (type_of code) None → false ≡ good_column code p q
+    pub suits_none : StandsFor (type_of code) None → false ≡ good_column code a b
     suits_none h = go (type_of code) h ∙ judged
       where
         go : (o : defined_option.Option FieldType) → StandsFor o None → false ≡ suits_type o a b
         go none k = refl
         go (some T) k = elim k [ ]
 
-    pub suits_rule : (r : Rule) (g : Bool) → StandsFor (type_of code) (Some r) → b < 256 → g ≡ allows_number (sizes_of r.sizes) (a * 256 + b) → g ≡ good_column code p q
+    pub suits_rule : (r : Rule) (g : Bool) → StandsFor (type_of code) (Some r) → b < 256 → g ≡ allows_number (sizes_of r.sizes) n → g ≡ good_column code a b
     unfolding allows_number
-    suits_rule r g h low e = e ∙ go (type_of code) h ∙ judged
+    suits_rule r g h low k = k ∙ go (type_of code) h ∙ judged
       where
-        x : (a * 256 + b) / 256 ≡ a
-        x = omega arith
+        x : n / 256 ≡ a
+        x = omega (arith, is_two)
 
-        y : (a * 256 + b) % 256 ≡ b
-        y = omega arith
+        y : n % 256 ≡ b
+        y = omega (arith, is_two)
 
-        go : (o : defined_option.Option FieldType) → StandsFor o (Some r)
-            → allows (sizes_of r.sizes) (size_of (sizes_of r.sizes) ((a * 256 + b) / 256) ((a * 256 + b) % 256)) ≡ suits_type o a b
+        go : (o : defined_option.Option FieldType) → StandsFor o (Some r) → allows (sizes_of r.sizes) (size_of (sizes_of r.sizes) (n / 256) (n % 256)) ≡ suits_type o a b
         go none k = elim k [ ]
         go (some T) (by_rule k) = rw (k.sizes, x, y) refl

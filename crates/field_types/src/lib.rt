@@ -64,6 +64,27 @@ enum Sizes {
     DigitsUpTo(usize),
 }
 
+// Whether there are 1 to `most` digits, and at most as many fraction digits.
+fn digits_allowed(most: usize, p: usize, fraction: usize) -> bool
+    ensures { result ≡ allows (digits_up_to most) (digits p fraction) }
+{
+    1 <= p && p <= most && fraction <= p
+}
+
+impl Sizes {
+    // Whether a size is allowed, by its two bytes as one number.
+    fn allow(self, size: usize) -> bool
+        ensures { result ≡ allows_number (sizes_of self) size }
+    {
+        match self {
+            Sizes::UpTo(most) => size <= most,
+            Sizes::Two(a, b) => size == a || size == b,
+            Sizes::Three(a, b, c) => size == a || size == b || size == c,
+            Sizes::DigitsUpTo(most) => digits_allowed(most, size / 256, size % 256),
+        }
+    }
+}
+
 // What a field type allows as its type parameters, and how its values are laid out.
 #[derive(Clone, Copy)]
 struct Rule {
@@ -73,6 +94,27 @@ struct Rule {
     default: Option<usize>,
     has_mode: bool,
     has_bias: bool,
+}
+
+impl Rule {
+    // The size that holds, by its two bytes as one number: the default, where there is one, in place of a field length other than 4, 8, 16.
+    fn size_held(self, size: usize) -> usize
+        ensures { result ≡ length_that_holds (given self.default) size }
+    {
+        if matches!(size, 4 | 8 | 16) {
+            return size;
+        }
+        self.default.unwrap_or(size)
+    }
+
+    // Whether a bias indicator, a mode and a size are allowed.
+    fn allows(self, bias: usize, mode: u8, size: usize) -> bool
+        ensures { result ≡ rule_allows self bias mode size }
+    {
+        bias <= usize::from(self.has_bias)
+            && mode <= u8::from(self.has_mode)
+            && self.sizes.allow(size)
+    }
 }
 
 // The rules, row by row.
@@ -194,56 +236,18 @@ fn unused_zero(ps: &[u8]) -> bool
     ps[0] == 0 && ps[1] == 0 && ps[4] == 0
 }
 
-// Whether there are 1 to `most` digits, and at most as many fraction digits.
-fn digits_allowed(most: usize, p: usize, fraction: usize) -> bool
-    ensures { result ≡ allows (digits_up_to most) (digits p fraction) }
-{
-    1 <= p && p <= most && fraction <= p
-}
-
-// Whether a size is allowed, by its two bytes as one number.
-fn size_allowed(sizes: Sizes, size: usize) -> bool
-    ensures { result ≡ allows_number (sizes_of sizes) size }
-{
-    match sizes {
-        Sizes::UpTo(most) => size <= most,
-        Sizes::Two(a, b) => size == a || size == b,
-        Sizes::Three(a, b, c) => size == a || size == b || size == c,
-        Sizes::DigitsUpTo(most) => digits_allowed(most, size / 256, size % 256),
-    }
-}
-
-// The size that holds, by its two bytes as one number: a type's default, where it has one, in place of a field length other than 4, 8, 16.
-fn size_held(default: Option<usize>, size: usize) -> usize
-    ensures { result ≡ length_that_holds (given default) size }
-{
-    if matches!(size, 4 | 8 | 16) {
-        return size;
-    }
-    default.unwrap_or(size)
-}
-
 // Whether a length that a group triplet gives, in two bytes, suits the type of a code as it is given; one of zero replaces nothing, and is good.
 pub fn good_length(code: u8, a: u8, b: u8) -> bool
     ensures { result ≡ good_column code a b }
 {
-    let length = usize::from(a) * 256 + usize::from(b);
+    let length = pair(a, b);
     if length == 0 {
         return true;
     }
     match rule_of(code) {
-        Some(rule) => size_allowed(rule.sizes, length),
+        Some(rule) => rule.sizes.allow(length),
         None => false,
     }
-}
-
-// Whether a rule allows a bias indicator, a mode and a size.
-fn rule_allows(rule: Rule, bias: usize, mode: u8, size: usize) -> bool
-    ensures { result ≡ rule_allows rule bias mode size }
-{
-    bias <= usize::from(rule.has_bias)
-        && mode <= u8::from(rule.has_mode)
-        && size_allowed(rule.sizes, size)
 }
 
 // The shape of an SDA whose type parameters are eight bytes that its field type allows, with the size that holds.
@@ -254,9 +258,9 @@ pub fn shape_of(code: u8, ps: &[u8]) -> Option<Shape>
         return None;
     }
     let rule = rule_of(code)?;
-    let given = usize::from(ps[6]) * 256 + usize::from(ps[7]);
-    let size = size_held(rule.default, given);
-    if !rule_allows(rule, pair(ps[2], ps[3]), ps[5], size) {
+    let given = pair(ps[6], ps[7]);
+    let size = rule.size_held(given);
+    if !rule.allows(pair(ps[2], ps[3]), ps[5], size) {
         return None;
     }
     Some(Shape {

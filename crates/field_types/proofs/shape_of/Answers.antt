@@ -12,11 +12,11 @@ returns-then-ps-ne8 c =
 pub returns-in_err-rule : goal.returns-in_err-rule
 returns-in_err-rule c = search (rules, shape_not, without_rule)
 
-pub returns-then-not-rule_allows : goal.returns-then-not-rule_allows
-returns-then-not-rule_allows c =
+pub returns-then-not-allows : goal.returns-then-not-allows
+returns-then-not-allows c =
     shape_not _ _ _
-    (told_by_rule _ _ _ c.in_ok-rule.ensures _ _ _ c.from.ensures c.from-2.ensures (omega arith) c.size_held-size.ensures _ _ _ _ (search rules)
-    c.unused_zero.ensures (search (not-false)) c.pair.ensures.0 c.rule_allows.ensures c.if-not-rule_allows.true)
+    (told_by_rule _ _ _ c.in_ok-rule.ensures _ _ c.pair-given.ensures.0 (omega (arith, c.type_inv.ps 7)) c.size_held-size.ensures _ _ _ _ (search rules)
+    c.unused_zero.ensures (search (not-false)) c.pair.ensures.0 c.allows.ensures c.if-not-allows.true)
 
 pub returns : goal.returns
 returns c = search (rules, by_shape, told_by_rule, not-false)

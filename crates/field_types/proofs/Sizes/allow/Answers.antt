@@ -1,8 +1,8 @@
 use borrow.Author.Rules.{rules}
 use Rattle.fdoca.proofs.Tests.{tests}
 use Rattle.field_types.proofs.Allowed.{by_top, by_two, by_three, by_digits}
-use Rattle.field_types.proofs.size_allowed.Goals as goal
-use Rattle.field_types.proofs.size_allowed.Goals.{then-size-a-2, else-size-a-2}
+use Rattle.field_types.proofs.Sizes.allow.Goals as goal
+use Rattle.field_types.proofs.Sizes.allow.Goals.{then-size-a-2, else-size-a-2}
 
 pub returns-in-UpTo : goal.returns-in-UpTo
 returns-in-UpTo c = search (by_top)

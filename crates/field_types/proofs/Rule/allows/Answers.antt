@@ -3,8 +3,8 @@ use mathlib.Core.Bool.{false}
 use lib.Dec.{leb}
 use borrow.Author.Tests.{lt-leb}
 use Rattle.field_types.proofs.Allowed.{bias_over, mode_over, size_told}
-use Rattle.field_types.proofs.rule_allows.Goals as goal
-use Rattle.field_types.proofs.rule_allows.Goals.{then-bias-from, else-bias-from}
+use Rattle.field_types.proofs.Rule.allows.Goals as goal
+use Rattle.field_types.proofs.Rule.allows.Goals.{then-bias-from, else-bias-from}
 
 pub returns-then-mode-from : goal.returns-then-mode-from
 returns-then-mode-from c =
