@@ -23,7 +23,7 @@ use Rattle.field_types.specs.declared.Sizes.{Sizes}
 use Rattle.field_types.specs.declared.Sizes.TheVariants.{UpTo, Two, Three, DigitsUpTo}
 use Rattle.field_types.specs.declared.Rule.{Rule}
 use Rattle.field_types.specs.declared.Shape.{Shape}
-use Rattle.field_types.specs.Rows.{sizes_of, given, IsRule, StandsFor, by_rule, rule_for}
+use Rattle.field_types.specs.Rows.{sizes_of, given, IsRule, StandsFor, with_rule, rule_for}
 use Rattle.field_types.specs.Parameters.{unused_zero, allows_number, rule_allows, good_eight, layout_for, size_number, shape_of, shape_if}
 use Rattle.numbers.proofs.Pairs.{two_at}
 
@@ -82,7 +82,7 @@ module _ (r : Rule) (bias mode size n : ℕ) (e : n ≡ bool_byte r.has_bias) wh
 is_rule : (o : defined_option.Option FieldType) (r : Rule) → StandsFor o (Some r) → IsRule r (rule_for o)
 unfolding rule_for
 is_rule none r h = elim h [ ]
-is_rule (some T) r (by_rule h) = h
+is_rule (some T) r (with_rule h) = h
 
 -- a type whose size is in digits has no default
 abbrev NoDefault : definition.Sizes → defined_option.Option ℕ → Type 0
@@ -258,4 +258,4 @@ module _ (code a b n : ℕ) (e : n ≡ big (a ∷ b ∷ [])) where
 
         go : (o : defined_option.Option FieldType) → StandsFor o (Some r) → allows (sizes_of r.sizes) (size_of (sizes_of r.sizes) (n / 256) (n % 256)) ≡ suits_type o a b
         go none k = elim k [ ]
-        go (some T) (by_rule k) = rw (k.sizes, x, y) refl
+        go (some T) (with_rule k) = rw (k.sizes, x, y) refl

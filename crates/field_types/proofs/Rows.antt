@@ -1,7 +1,7 @@
 -- Laws of the types: the nullable forms, the layout behind a number, and the type whose size is in digits.
 -- Assumes nothing.
 use Rattle.std.specs.Prelude.{if◌then◌else◌, Option, None}
-use mathlib.Core.Path.{◌≡◌, refl, sym, ◌∙◌}
+use mathlib.Core.Path.{◌≡◌, refl, sym, ◌∙◌, ap}
 use Prim.Native.Nat.{ℕ, ◌+◌, ◌<◌}
 use native.Mathlib.Omega.{arith}
 use mathlib.Core.Bool.{Bool, true, false, not}
@@ -16,7 +16,7 @@ use Rattle.fdoca.proofs.Table.{looked_up, Unlisted, not_listed}
 use Rattle.fdoca.proofs.TypeRows.{plain_low, plain_high}
 use Rattle.field_types.specs.Layouts.{numbered, layout_of, prefix_of, form_of}
 use Rattle.field_types.specs.declared.Rule.{Rule}
-use Rattle.field_types.specs.Rows.{type_at, StandsFor, no_type, rule_for}
+use Rattle.field_types.specs.Rows.{type_at, StandsFor, no_rule, rule_for}
 use Rattle.field_types.specs.Parameters.{layout_for, is_digits, in_digits}
 
 -- a code and its nullable form have the same plain code, and so the same type
@@ -27,10 +27,13 @@ pub type_nullable : (code : ℕ) → code < 128 → type_of (code + 128) ≡ typ
 unfolding type_of
 type_nullable code l = rw (plain_nullable code l)
 
+pub row_nullable : (code : ℕ) → code < 128 → type_at (plain (code + 128)) ≡ type_at (plain code)
+row_nullable code l = ap type_at (plain_nullable code l)
+
 -- X'00' and X'80' stand for no type
-pub zero_no_type : (type_of 0x00 ≡ none) × (type_of 0x80 ≡ none)
+pub no_type : (type_of 0x00 ≡ none) × (type_of 0x80 ≡ none)
 unfolding type_of
-zero_no_type = (refl, refl)
+no_type = (refl, refl)
 
 -- the layout behind its number
 pub layout_back : (l : definition.Layout) → layout_of (numbered (prefix_of l)) ≡ l
@@ -53,7 +56,7 @@ rule_found c k r e h = rw e h
 
 pub rule_none : (c : ℕ) → Unlisted c types → StandsFor (type_at c) None
 unfolding type_at
-rule_none c h = rw (not_listed c types h) no_type
+rule_none c h = rw (not_listed c types h) no_rule
 
 -- a code is judged by the rule that its plain code finds
 pub rule_of_plain : (code c : ℕ) (r : Option Rule) → c ≡ plain code → StandsFor (type_at c) r → StandsFor (type_of code) r

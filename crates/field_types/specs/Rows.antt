@@ -35,8 +35,8 @@ pub record IsRule (r : Rule) (d : definition.Rule) : Type 0 where
 
 -- The rule of a type, and none where there is no type.
 pub data StandsFor : defined_option.Option FieldType → Option Rule → Type 0 where
-  no_type : StandsFor none None
-  by_rule : {T : FieldType} {r : Rule} → IsRule r (rule_of T) → StandsFor (some T) (Some r)
+  no_rule : StandsFor none None
+  with_rule : {T : FieldType} {r : Rule} → IsRule r (rule_of T) → StandsFor (some T) (Some r)
 
 -- The rule by which a code is judged: where there is no type, no size is allowed.
 unfoldable pub rule_for : defined_option.Option FieldType → definition.Rule

@@ -58,9 +58,6 @@ module _ (t : List ℕ) (h : good_sda t ≡ true) where
 
 -- the product of the lower extents
 module _ (t : List ℕ) (h : good_length_sda t ≡ true) where
-  pub lower_none : length t ≡ 12 → 0 ≡ lower_of (extents_of t)
-  lower_none e = rw (extents_end t 12 (omega arith))
-
   pub lower_some : (n : ℕ) → (length t ≡ 12 → ⊥) → n ≡ extent_or_1 t 14 * extent_or_1 t 16 → n ≡ lower_of (extents_of t)
   lower_some n k e = go (four_lengths t h)
     where
@@ -79,14 +76,11 @@ lower_most (suc x ∷ xs) h =
     let m : 1 * product xs ≤ suc x * product xs = mul-le-mul_right (product xs) (omega arith) in
     omega arith
 
--- a size of at most 4,096 items fits
+-- the lower product of at most 4,096 items fits
 module _ (t : List ℕ) (count lower : ℕ) (g : good_sda t ≡ true) (e : count ≡ product (extents_of t)) (small : count ≤ 4096)
     (l : lower ≡ lower_of (extents_of t)) where
   least : lower ≤ 4096
   least = omega (arith, lower_most (extents_of t) (good_positive t g))
-
-  pub count_fits : Fits w16 count
-  count_fits = record { fits = omega arith }
 
   pub lower_fits : Fits w16 lower
   lower_fits = let h : lower ≤ 4096 = least in record { fits = omega arith }

@@ -1,7 +1,7 @@
 -- An SDA's bytes: its LENGTH, its extents and their product, and what makes its parameters good.
 -- Assumes nothing.
 use Rattle.std.specs.Prelude.{if◌then◌else◌}
-use mathlib.Core.Path.{◌≡◌, refl, sym, ap, ◌∙◌}
+use mathlib.Core.Path.{◌≡◌, refl, sym, ap, subst, ◌∙◌}
 use Prim.Native.Nat.{ℕ, zero, suc, ◌+◌, ◌*◌, ◌≤◌, ◌<◌}
 use native.Mathlib.Omega.{arith}
 use native.Mathlib.Nat.{zero-mul, mul-zero, mul-one, mul-pos}
@@ -12,8 +12,6 @@ use lib.Dec.{ltb, eqb}
 use lib.ListN.{length, get_or, drop, length-drop, drop_of_length-le}
 use lib.Seq.{drop-cons, length-take-le}
 use borrow.Author.Tests.{lt-ltb, le-ltb, eq-eqb, ne_eqb, eqb-true}
-use mir.Syntax.{w64}
-use mir.Val.{Fits}
 use Rattle.std.specs.Prelude.{Option, None, Some}
 use Rattle.fdoca.specs.declared.Reason.TheVariants.{BadLength, BadParameter, NameTaken, TooManyItems}
 use Rattle.fdoca.specs.Basics.{elem, product}
@@ -83,22 +81,10 @@ extents_product t h = go (four_lengths t h)
     go (three_left e) =
         rw (extents_next t 12 (omega arith), extents_next t 14 (omega arith), extents_next t 16 (omega arith), extents_end t 18 (omega arith)) (rw mul-one)
 
--- products of extents fit
+-- the product of all extents
 module _ (a b : ℕ) where
-  pub lower_fits : a < 65536 → b < 65536 → Fits w64 (a * b)
-  lower_fits h k = let m : a * b ≤ 65535 * 65535 = below a b 65535 65535 (omega arith) (omega arith) in record { fits = omega arith }
-
-  pub count_fits : a < 65536 → b < 4294967296 → Fits w64 (a * b)
-  count_fits h k = let m : a * b ≤ 65535 * 4294967295 = below a b 65535 4294967295 (omega arith) (omega arith) in record { fits = omega arith }
-
-  pub lower_below : a < 65536 → b < 65536 → a * b < 4294967296
-  lower_below h k = let m : a * b ≤ 65535 * 65535 = below a b 65535 65535 (omega arith) (omega arith) in omega arith
-
   pub count_below : a < 65536 → b < 4294967296 → a * b < 281474976710656
   count_below h k = let m : a * b ≤ 65535 * 4294967295 = below a b 65535 4294967295 (omega arith) (omega arith) in omega arith
-
-  pub lower_is : (x y : ℕ) → a ≡ x → b ≡ y → a * b ≡ x * y
-  lower_is x y e f = cc
 
   pub count_is : (t : List ℕ) → good_length_sda t ≡ true → a ≡ extent_or_1 t 12 → b ≡ extent_or_1 t 14 * extent_or_1 t 16 → a * b ≡ product (extents_of t)
   count_is t g e f = let q : a * b ≡ extent_or_1 t 12 * (extent_or_1 t 14 * extent_or_1 t 16) = cc in q ∙ sym (extents_product t g)
@@ -131,46 +117,45 @@ module _ (t : List ℕ) where
       let p : not (elem 0 (extents_of t)) ≡ true = no_zero (extents_of t) ∙ rw (← c) (lt-ltb 0 n (omega (arith, z))) in
       e ∙ ap (λ b. shape_if b (code_of t) (parameters_of t)) (simp (ne_eqb (get_or t 2 0) 0 i, p, g, and-true))
 
--- the ways through judging an SDA
-module _ (t s : List ℕ) (a : Bool) (h : a ≡ good_length_sda t) where
-  pub sda_bad_length : a ≡ false → RefusedSDA t s BadLength
+-- the ways through judging an SDA, b being the bytes that are kept of t
+pub sda_bad_length : (t s : List ℕ) → good_length_sda t ≡ false → RefusedSDA t s BadLength
+unfolding check_sda
+sda_bad_length t s h = record { refuses = λ p z y es k. rw h }
+
+module _ (t s b : List ℕ) (e : b ≡ t) (h : good_length_sda b ≡ true) where
+  pub sda_bad : None ≡ shape_if (good_sda b) (code_of b) (parameters_of b) → RefusedSDA t s BadParameter
   unfolding check_sda
-  sda_bad_length f = record { refuses = λ p z y es k. rw (← h, f) }
+  sda_bad g = subst (λ t. RefusedSDA t s BadParameter) e (record { refuses = λ p z y es k. rw (h, shape_none (code_of b) (parameters_of b) (good_sda b) g) })
 
-  module _ (f : a ≡ true) where
-    pub sda_bad : None ≡ shape_if (good_sda t) (code_of t) (parameters_of t) → RefusedSDA t s BadParameter
+  module _ (x : Shape) (g : Some x ≡ shape_if (good_sda b) (code_of b) (parameters_of b)) (i : ℕ) (ei : i ≡ id_of b) (l : i < 256) where
+    good : good_sda b ≡ true
+    good = shape_some (code_of b) (parameters_of b) (good_sda b) x g
+
+    pub sda_taken : (get_or s i 0 ≡ 65535 → ⊥) → RefusedSDA t s NameTaken
     unfolding check_sda
-    sda_bad g = record { refuses = λ p z y es k. rw (← h, f, shape_none (code_of t) (parameters_of t) (good_sda t) g) }
+    sda_taken u =
+        subst (λ t. RefusedSDA t s NameTaken) e
+        (record { refuses = λ p z y es w. rw (h, good, is_described_lem s z y es (id_of b) (rw ei at l) (rw ei at u) w) })
 
-    module _ (x : Shape) (g : Some x ≡ shape_if (good_sda t) (code_of t) (parameters_of t)) (l : get_or t 2 0 < 256) where
-      good : good_sda t ≡ true
-      good = shape_some (code_of t) (parameters_of t) (good_sda t) x g
+    module _ (count : ℕ) (u : get_or s i 0 ≡ 65535) (m : count ≡ product (extents_of b)) where
+      new : (z y : List ℕ) (es : List (ℕ × Entry)) → Agrees s z y es → is_described (id_of b) es ≡ false
+      new z y es w = not_described s z y es (id_of b) (rw ei at l) (rw ei at u) w
 
-      pub sda_taken : (get_or s (get_or t 2 0) 0 ≡ 65535 → ⊥) → RefusedSDA t s NameTaken
+      pub sda_many : (most : ℕ) → 4096 ≤ most → most < count → RefusedSDA t s TooManyItems
       unfolding check_sda
-      sda_taken u = record { refuses = λ p z y es w. rw (← h, f, good, is_described_lem s z y es (id_of t) l u w) }
+      sda_many most o k =
+          subst (λ t. RefusedSDA t s TooManyItems) e
+          (record { refuses = λ p z y es w. rw (h, good, new z y es w, ← m, lt-ltb 4096 count (omega arith)) })
 
-      module _ (count : ℕ) (u : get_or s (get_or t 2 0) 0 ≡ 65535) (m : count ≡ product (extents_of t)) where
-        new : (z y : List ℕ) (es : List (ℕ × Entry)) → Agrees s z y es → is_described (id_of t) es ≡ false
-        new z y es w = not_described s z y es (id_of t) l u w
-
-        pub sda_many : (most : ℕ) → 4096 ≤ most → most < count → RefusedSDA t s TooManyItems
-        unfolding check_sda
-        sda_many most o k = record { refuses = λ p z y es w. rw (← h, f, good, new z y es w, ← m, lt-ltb 4096 count (omega arith)) }
-
-        pub sda_fine : count ≤ 4096 → AcceptedSDA t s (record { shape = x; count = count })
-        unfolding check_sda
-        sda_fine k =
-            record {
-              accepts = λ p z y es w. rw (← h, f, good, new z y es w, ← m, le-ltb 4096 count k);
-              count = m;
-              shape = shape_is (code_of t) (parameters_of t) (good_sda t) x g;
-              length_good = sym h ∙ f;
-              good = good;
-              small = k;
-            }
-
--- an SDA of good length has its first 12 bytes
-module _ (t : List ℕ) (h : good_length_sda t ≡ true) where
-  pub has : (k : ℕ) → k < 12 → k < length t
-  has k l = omega (arith, at_least_12 t h)
+      pub sda_fine : count ≤ 4096 → AcceptedSDA t s (record { shape = x; count = count })
+      unfolding check_sda
+      sda_fine k =
+          subst (λ t. AcceptedSDA t s (record { shape = x; count = count })) e
+          (record {
+            accepts = λ p z y es w. rw (h, good, new z y es w, ← m, le-ltb 4096 count k);
+            count = m;
+            shape = shape_is (code_of b) (parameters_of b) (good_sda b) x g;
+            length_good = h;
+            good = good;
+            small = k;
+          })
