@@ -73,6 +73,7 @@ fn endless_row(desc: &[u8], tables: &Tables, p: usize) -> bool
     ensures { result ≡ endless (row_list desc.now p) }
 {
     let head = desc[p + 1];
+    // No `all`: in a cycle of calls a closure needs clauses and a measure of its own.
     for group in Groups::of(desc, p) {
         if !endless_group(desc, tables, group, head) {
             return false;
