@@ -7,7 +7,8 @@ ghost use Rattle.std.specs.Prelude.{◌≡◌, ◌+◌, ◌*◌, ◌/◌, ◌%�
 
 use std::marker::Model;
 
-// The place of an id that no triplet describes.
+// The place of an id that no triplet describes. Within the table a mark stands for none, this one for the place and 0 for the entry: with Options
+// an id would take 24 bytes in place of 16.
 const NOWHERE: u16 = 65535;
 
 // What is kept of an id. That the count is below 65,536, as its type says, is what takes a size of the lists apart again.
