@@ -4,11 +4,11 @@ use Rattle.std.proofs.Common.{◌≡◌, refl, ◌∙◌, ℕ, ◌-◌, ◌%◌,
 use Rattle.fdoca.specs.declared.Reason.{Reason}
 use Rattle.fdoca.specs.Basics.{lookup, is_empty, ◌>>=◌}
 use Rattle.fdoca.specs.Returned.{outcome}
-use Rattle.fdoca.specs.Triplet.{Kind, threes, groups_of}
+use Rattle.fdoca.specs.Triplet.{Kind, Group, threes, groups_of}
 use Rattle.fdoca.specs.Check.{Entry, add_group, add_groups, good_length_row}
 use Rattle.fdoca.proofs.Tests.{and_left, and_right}
 use Rattle.tables.specs.Lists.{Lists}
-use Rattle.triplets.specs.Judged.{group_of, Agree, GoodRow, AddedGroup, AddedGroups}
+use Rattle.triplets.specs.Judged.{Agree, GoodRow, AddedGroup, AddedGroups}
 
 pub whole_groups : (t : List ℕ) → good_length_row t ≡ true → GoodRow t
 whole_groups t h = record { some_there = leb-true 6 (length t) (and_left _ _ h); by_three = eqb-true (length t % 3) 0 (and_right _ _ h) }
@@ -18,7 +18,10 @@ behind_three : (t : List ℕ) → take (length t - 3) (drop 3 t) ≡ drop 3 t
 behind_three t = take_all (length t - 3) (drop 3 t) (simp length-drop (omega arith))
 
 -- the group that the bytes left begin with
-first_group : (left : List ℕ) → 3 ≤ length left → threes left ≡ group_of (get_or left 0 0) (get_or left 1 0) (get_or left 2 0) ∷ threes (drop 3 left)
+abbrev first_of : List ℕ → Group
+first_of left = record { ref = get_or left 0 0; byte1 = get_or left 1 0; byte2 = get_or left 2 0 }
+
+first_group : (left : List ℕ) → 3 ≤ length left → threes left ≡ first_of left ∷ threes (drop 3 left)
 first_group [] h = absurd (omega arith)
 first_group (a ∷ []) h = absurd (omega arith)
 first_group (a ∷ b ∷ []) h = absurd (omega arith)
@@ -60,13 +63,13 @@ module _ (kind : Kind) (last : Bool) (t : List ℕ) (l : Lists) (sum : ℕ) wher
       is_last = rw (behind_three left) (empty_alike (drop 3 left) (simp length-drop (omega (arith, inv.in_threes))))
 
       module _ (ends : Bool) (r : Result ℕ Reason) (v : ends ≡ (last && is_empty (threes (drop 3 left))))
-          (a : AddedGroup kind ends l (get_or left 0 0) (get_or left 1 0) (get_or left 2 0) n r) where
+          (a : AddedGroup kind ends l (first_of left) n r) where
         -- the groups left, with what adding the first gave
         step : (p : ℕ) (es : List (ℕ × Entry)) → Agree l es
             → add_groups kind last p es sum (groups_of t) ≡ (outcome p r >>= (λ m. add_groups kind last p es m (threes (drop 3 left))))
         unfolding add_groups
         step p es k =
-            let x : add_group kind ends p n (group_of (get_or left 0 0) (get_or left 1 0) (get_or left 2 0)) (lookup (get_or left 0 0) es) ≡ outcome p r = a.result p es k in
+            let x : add_group kind ends p n (first_of left) (lookup (get_or left 0 0) es) ≡ outcome p r = a.result p es k in
             inv.same p es k ∙ rw (first_group left here, ← v, x) refl
 
         pub adding_stop : (x : Reason) → r ≡ Err x → AddedGroups kind last (groups_of t) l sum (Err x)

@@ -6,14 +6,11 @@ use Rattle.fdoca.specs.declared.Reason.{Reason}
 use Rattle.fdoca.specs.declared.Reason.TheVariants.{TooManyItems}
 use Rattle.fdoca.specs.Returned.{outcome, option_of}
 use Rattle.fdoca.specs.Basics.{lookup, ok, ◌>>=◌, ◌>>◌}
-use Rattle.fdoca.specs.Triplet.{Kind, Group, id_of}
+use Rattle.fdoca.specs.Triplet.{Kind, Group, taken, id_of}
 use Rattle.fdoca.specs.Check.{Entry, State, max_items, count_taken, fits, add_group, add_groups, check_row, check_cpt, check_isd}
 use Rattle.plans.specs.Tied.{kind_of}
 use Rattle.tables.specs.Lists.{Lists}
 use Rattle.sdas.specs.Tables.{KeptAs, Agrees}
-
-abbrev pub group_of : ℕ → ℕ → ℕ → Group
-group_of ref byte1 byte2 = record { ref = ref; byte1 = byte1; byte2 = byte2 }
 
 -- The described ids, and a row at hand.
 abbrev pub row_at_hand : Kind → ℕ → ℕ → List (ℕ × Entry) → State
@@ -31,21 +28,21 @@ abbrev pub Agree : Lists → List (ℕ × Entry) → Type 0
 Agree l es = Agrees l.starts l.sizes l.entries es
 
 -- How many items a group of an RLO takes once of a described id.
-pub record ItemsTaken (l : Lists) (id taken : ℕ) (r : Option ℕ) : Type 0 where
-  pub result : (y : Entry) → KeptAt l id (some y) → r ≡ option_of (count_taken taken y)
+pub record ItemsTaken (l : Lists) (g : Group) (r : Option ℕ) : Type 0 where
+  pub result : (y : Entry) → KeptAt l g.ref (some y) → r ≡ option_of (count_taken (taken g) y)
   pub small : IfSome r (λ n. n ≤ 255 * 65535)
 
--- Whether a column may refer to a described id.
-pub record FitsColumn (l : Lists) (id a b : ℕ) (r : Bool) : Type 0 where
-  pub result : (y : Entry) → KeptAt l id (some y) → r ≡ fits (group_of id a b) y
+-- Whether a column may be of a described id.
+pub record FitsColumn (l : Lists) (g : Group) (r : Bool) : Type 0 where
+  pub result : (y : Entry) → KeptAt l g.ref (some y) → r ≡ fits g y
 
 -- What adding a group to a row of `sum` items gives, where it refers to a described id, and where to any.
-pub record Counted (kind : Kind) (ends : Bool) (l : Lists) (id byte1 byte2 sum : ℕ) (r : Result ℕ Reason) : Type 0 where
-  pub result : (p : ℕ) (y : Entry) → KeptAt l id (some y) → add_group kind ends p sum (group_of id byte1 byte2) (some y) ≡ outcome p r
+pub record Counted (kind : Kind) (ends : Bool) (l : Lists) (g : Group) (sum : ℕ) (r : Result ℕ Reason) : Type 0 where
+  pub result : (p : ℕ) (y : Entry) → KeptAt l g.ref (some y) → add_group kind ends p sum g (some y) ≡ outcome p r
   pub small : IfOk r (λ n. n ≤ 4096)
 
-pub record AddedGroup (kind : Kind) (ends : Bool) (l : Lists) (id byte1 byte2 sum : ℕ) (r : Result ℕ Reason) : Type 0 where
-  pub result : (p : ℕ) (es : List (ℕ × Entry)) → Agree l es → add_group kind ends p sum (group_of id byte1 byte2) (lookup id es) ≡ outcome p r
+pub record AddedGroup (kind : Kind) (ends : Bool) (l : Lists) (g : Group) (sum : ℕ) (r : Result ℕ Reason) : Type 0 where
+  pub result : (p : ℕ) (es : List (ℕ × Entry)) → Agree l es → add_group kind ends p sum g (lookup g.ref es) ≡ outcome p r
   pub small : IfOk r (λ n. n ≤ 4096)
 
 -- What adding the groups gives.

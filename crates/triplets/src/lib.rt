@@ -6,14 +6,15 @@ ghost use Rattle.std.specs.Prelude.{◌≡◌, ◌≤◌, Bool, true};
 ghost use Rattle.fdoca.specs.Triplet.{rlo, gda, groups_of};
 ghost use Rattle.fdoca.specs.Check.{good_length_row, good_length_isd, good_isd};
 ghost use Rattle.plans.specs.Tied.{kind_of};
+ghost use Rattle.plans.specs.Left.{group_of};
 ghost use Rattle.triplets.specs.Judged.{summed, ItemsTaken, FitsColumn, Counted, AddedGroup, AddedGroups, JudgedRow, JudgedCPT, JudgedISD};
 
 use fdoca::Reason;
-use plans::GDA;
+use plans::{GDA, Group};
 use sdas::MOST;
 use tables::Tables;
 
-// The construct type of an RLO.
+// The construct type of an RLO. A row's kind stays the construct type of its head, a number of the standard: a const parameter has to be a number.
 pub const RLO: u8 = 0x71;
 
 // By what the plan entry of a field is divided, so that the type code stands lowest.
@@ -38,69 +39,62 @@ fn total(sum: usize, n: usize) -> Result<usize, Reason>
 }
 
 // How many items a group of an RLO takes once of a described id. None: a number of elements of what has no extents.
-fn items_taken(tables: &Tables, id: u8, taken: u8) -> Option<usize>
-    ensures { ItemsTaken tables.now id taken result }
+fn items_taken(tables: &Tables, group: Group) -> Option<usize>
+    ensures { ItemsTaken tables.now (group_of group) result }
 {
-    match (taken, tables.lower(id)) {
-        (0, _) => Some(tables.count(id)),
+    match (group.byte1, tables.lower(group.id)) {
+        (0, _) => Some(tables.count(group.id)),
         (_, 0) => None,
-        (_, lower) => Some(usize::from(taken) * lower),
+        (taken, lower) => Some(usize::from(taken) * lower),
     }
 }
 
 // The count of an RLO with one more group, of repetition factor 0, which refers to a described id: 0 is carried where the group `ends` the descriptor,
 // and the group then adds nothing (document 02, Q-5). It has a function of its own, since asking for `ends` at each group takes time.
-fn add_rows(tables: &Tables, id: u8, taken: u8, sum: usize, ends: bool) -> Result<usize, Reason>
+fn add_rows(tables: &Tables, group: Group, sum: usize, ends: bool) -> Result<usize, Reason>
     requires { sum ≤ 4096 }
-    ensures { Counted rlo ends tables.now id taken 0 sum result }
+    ensures { group.byte2 ≡ 0 → Counted rlo ends tables.now (group_of group) sum result }
 {
     if !ends {
         return Err(Reason::NotCarried);
     }
-    match items_taken(tables, id, taken) {
+    match items_taken(tables, group) {
         Some(_) => Ok(sum),
         None => Err(Reason::NotCarried),
     }
 }
 
 // The count of an RLO with one more group, which refers to a described id.
-fn add_elements(
-    tables: &Tables,
-    id: u8,
-    taken: u8,
-    factor: u8,
-    sum: usize,
-    ends: bool,
-) -> Result<usize, Reason>
+fn add_elements(tables: &Tables, group: Group, sum: usize, ends: bool) -> Result<usize, Reason>
     requires { sum ≤ 4096 }
-    ensures { Counted rlo ends tables.now id taken factor sum result }
+    ensures { Counted rlo ends tables.now (group_of group) sum result }
 {
-    if factor == 0 {
-        return add_rows(tables, id, taken, sum, ends);
+    if group.byte2 == 0 {
+        return add_rows(tables, group, sum, ends);
     }
-    let items = items_taken(tables, id, taken).ok_or(Reason::NotCarried)?;
-    total(sum, usize::from(factor) * items)
+    let items = items_taken(tables, group).ok_or(Reason::NotCarried)?;
+    total(sum, usize::from(group.byte2) * items)
 }
 
-// Whether a column may refer to a described id, with the bytes `a` and `b` as its length: to an SDA without extents, for whose type the length is good.
-fn fits(tables: &Tables, id: u8, a: u8, b: u8) -> bool
-    ensures { FitsColumn tables.now id a b result }
+// Whether a column may be of a described id: of an SDA without extents, for whose type the length that the group gives is good.
+fn fits(tables: &Tables, group: Group) -> bool
+    ensures { FitsColumn tables.now (group_of group) result }
 {
-    match tables.field(id) {
+    match tables.field(group.id) {
         Some(field) => {
             let code = (field / CODE % 256) as u8;
-            tables.lower(id) == 0 && field_types::good_length(code, a, b)
+            tables.lower(group.id) == 0 && field_types::good_length(code, group.byte1, group.byte2)
         }
         None => false,
     }
 }
 
 // The count of a GDA with one more group, which refers to a described id.
-fn add_column(tables: &Tables, id: u8, a: u8, b: u8, sum: usize) -> Result<usize, Reason>
+fn add_column(tables: &Tables, group: Group, sum: usize) -> Result<usize, Reason>
     requires { sum ≤ 4096 }
-    ensures { (ends : Bool) → Counted gda ends tables.now id a b sum result }
+    ensures { (ends : Bool) → Counted gda ends tables.now (group_of group) sum result }
 {
-    if !fits(tables, id, a, b) {
+    if !fits(tables, group) {
         return Err(Reason::ColumnMisfit);
     }
     total(sum, 1)
@@ -109,22 +103,20 @@ fn add_column(tables: &Tables, id: u8, a: u8, b: u8, sum: usize) -> Result<usize
 // A row's count with one more group, HEAD being the construct type of the row's head.
 fn add_group<const HEAD: u8>(
     tables: &Tables,
-    id: u8,
-    a: u8,
-    b: u8,
+    group: Group,
     sum: usize,
     ends: bool,
 ) -> Result<usize, Reason>
     requires { sum ≤ 4096 }
-    ensures { AddedGroup (kind_of HEAD) ends tables.now id a b sum result }
+    ensures { AddedGroup (kind_of HEAD) ends tables.now (group_of group) sum result }
 {
-    if !tables.is_described(id) {
+    if !tables.is_described(group.id) {
         return Err(Reason::MissingReference);
     }
     if HEAD == GDA {
-        return add_column(tables, id, a, b, sum);
+        return add_column(tables, group, sum);
     }
-    add_elements(tables, id, a, b, sum, ends)
+    add_elements(tables, group, sum, ends)
 }
 
 // A row's count with the groups of a triplet of it, or the first refusal among them. The construct type HEAD of the row's head is a const parameter,
@@ -140,12 +132,28 @@ fn add_groups<const HEAD: u8>(
 {
     let mut groups = &t[3..];
     let mut n = sum;
-    while let [id, a, b, rest @ ..] = groups {
+    while let [id, byte1, byte2, rest @ ..] = groups {
+        let group = Group {
+            id: *id,
+            byte1: *byte1,
+            byte2: *byte2,
+        };
         let ends = last && rest.is_empty();
-        n = add_group::<HEAD>(tables, *id, *a, *b, n, ends)?;
+        n = add_group::<HEAD>(tables, group, n, ends)?;
         groups = rest;
     }
     Ok(n)
+}
+
+// The same by the construct type of the row's head.
+fn add_triplet(t: &[u8], head: u8, last: bool, tables: &Tables, sum: usize) -> Result<usize, Reason>
+    requires { (good_length_row t.now ≡ true) × (sum ≤ 4096) }
+    ensures { AddedGroups (kind_of head) last (groups_of t.now) tables.now sum result }
+{
+    if head == GDA {
+        return add_groups::<GDA>(t, last, tables, sum);
+    }
+    add_groups::<RLO>(t, last, tables, sum)
 }
 
 // The count of an RLO or a GDA. `last` tells whether it is the descriptor's last triplet.
@@ -162,10 +170,7 @@ pub fn judge_row(t: &[u8], last: bool, tables: &Tables) -> Result<usize, Reason>
     if tables.is_described(t[2]) {
         return Err(Reason::NameTaken);
     }
-    if t[1] == GDA {
-        return add_groups::<GDA>(t, last, tables, 0);
-    }
-    add_groups::<RLO>(t, last, tables, 0)
+    add_triplet(t, t[1], last, tables, 0)
 }
 
 // The count of a row of `sum` items with those of a CPT. `head` is the construct type of the row's head.
@@ -186,10 +191,7 @@ pub fn judge_cpt(
     if t[2] != 0 {
         return Err(Reason::BadParameter);
     }
-    if head == GDA {
-        return add_groups::<GDA>(t, last, tables, sum);
-    }
-    add_groups::<RLO>(t, last, tables, sum)
+    add_triplet(t, head, last, tables, sum)
 }
 
 // LENGTH of an ISD.

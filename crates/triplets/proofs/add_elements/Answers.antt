@@ -10,9 +10,9 @@ returns-in_err-items c =
     let p = err_from_is_err_and c.from_residual.result c.from_residual.ensures.1 in
     let refused : c.ok_or.result ≡ Err p.0 = rw p.2 c.in_err-items.was in
     let same : p.0 ≡ NotCarried = grind arith in
-    rw (p.1, same) (none_taken _ _ _ _ _ _ (carried _ _ c.if-factor-eq0.false) (rw none at c.items_taken.ensures))
+    rw (p.1, same) (none_taken _ _ _ _ (carried _ _ c.if-group-eq0.false) (rw none at c.items_taken.ensures))
 
 pub returns : goal.returns
 returns c =
     let some : c.items_taken.result ≡ Some c.in_ok-items.items = grind arith in
-    rw (c.total.ensures, c.from.ensures) (some_taken _ _ _ _ _ _ (carried _ _ c.if-factor-eq0.false) _ (rw some at c.items_taken.ensures))
+    rw (c.total.ensures, c.from.ensures) (some_taken _ _ _ _ (carried _ _ c.if-group-eq0.false) _ (rw some at c.items_taken.ensures))
