@@ -42,20 +42,19 @@ empty_alike (a ∷ b ∷ c ∷ s) h = ne_eqb (length (a ∷ b ∷ c ∷ s)) 0 (�
 
 -- before the groups whose bytes are left: n items so far
 pub record Adding (kind : Kind) (last : Bool) (t : List ℕ) (l : Lists) (sum n : ℕ) (left : List ℕ) : Type 0 where
-  pub small : n ≤ 4096
   pub in_threes : length left % 3 ≡ 0
   pub same : (p : ℕ) (es : List (ℕ × Entry)) → Agree l es → add_groups kind last p es sum (groups_of t) ≡ add_groups kind last p es n (threes left)
 
 module _ (kind : Kind) (last : Bool) (t : List ℕ) (l : Lists) (sum : ℕ) where
-  pub adding_start : good_length_row t ≡ true → sum ≤ 4096 → Adding kind last t l sum sum (take (length t - 3) (drop 3 t))
-  adding_start h k =
+  pub adding_start : good_length_row t ≡ true → Adding kind last t l sum sum (take (length t - 3) (drop 3 t))
+  adding_start h =
       let w : GoodRow t = whole_groups t h in
-      rw (behind_three t) (record { small = k; in_threes = simp length-drop (omega (arith, w.some_there, w.by_three)); same = λ p es a. refl })
+      rw (behind_three t) (record { in_threes = simp length-drop (omega (arith, w.some_there, w.by_three)); same = λ p es a. refl })
 
   module _ (n : ℕ) (left : List ℕ) (inv : Adding kind last t l sum n left) where
     pub adding_end : length left < 3 → AddedGroups kind last (groups_of t) l sum (Ok n)
     unfolding add_groups
-    adding_end h = record { result = λ p es a. inv.same p es a ∙ rw (no_group left h) refl; small = inv.small }
+    adding_end h = record { result = λ p es a. inv.same p es a ∙ rw (no_group left h) refl }
 
     module _ (here : 3 ≤ length left) where
       -- whether the first group is the last one
@@ -73,13 +72,12 @@ module _ (kind : Kind) (last : Bool) (t : List ℕ) (l : Lists) (sum : ℕ) wher
             inv.same p es k ∙ rw (first_group left here, ← v, x) refl
 
         pub adding_stop : (x : Reason) → r ≡ Err x → AddedGroups kind last (groups_of t) l sum (Err x)
-        adding_stop x f = record { result = λ p es k. step p es k ∙ rw f refl; small = tt }
+        adding_stop x f = record { result = λ p es k. step p es k ∙ rw f refl }
 
         pub adding_more : (m : ℕ) → r ≡ Ok m → Adding kind last t l sum m (take (length left - 3) (drop 3 left))
         adding_more m f =
             rw (behind_three left) (
             record {
-              small = (rw f at a).small;
               in_threes = simp length-drop (omega (arith, inv.in_threes));
               same = λ p es k. step p es k ∙ rw f refl;
             })

@@ -1,6 +1,6 @@
 -- One group of a row: the refusals in order, and the count with it.
 -- Assumes nothing.
-use Rattle.std.proofs.Common.{◌≡◌, refl, ap, arith, ℕ, ◌+◌, ◌*◌, ◌≤◌, ◌<◌, Bool, true, false, not, ◌&&◌, ltb, eqb, ne_eqb, get_or, Some, None, Result, Ok, Err, IfOk, le-ltb}
+use Rattle.std.proofs.Common.{◌≡◌, refl, arith, ℕ, ◌+◌, ◌*◌, ◌<◌, Bool, true, false, not, ◌&&◌, ltb, eqb, ne_eqb, get_or, Some, None, Result, Err}
 use Rattle.std.proofs.Math.Option.{none, some}
 use Rattle.std.proofs.Math.Option as defined
 use Rattle.fdoca.specs.declared.Reason.{Reason}
@@ -9,14 +9,10 @@ use Rattle.fdoca.specs.Returned.{outcome, option_of}
 use Rattle.fdoca.specs.Basics.{lookup, ok, ◌>>◌, reject}
 use Rattle.fdoca.specs.Triplet.{Kind, rlo, gda, Group, taken, factor}
 use Rattle.fdoca.specs.Check.{Entry, count_taken, max_items, count_added, add_group}
-use Rattle.fdoca.proofs.Tests.{by_lt}
 use Rattle.plans.specs.Tied.{kind_of}
 use Rattle.plans.proofs.Referred.{kind_array, kind_row}
 use Rattle.tables.specs.Lists.{Lists}
 use Rattle.triplets.specs.Judged.{summed, KeptAt, ItemsTaken, FitsColumn, Counted, AddedGroup}
-
-summed_small : (sum n : ℕ) → IfOk (summed sum n) (λ m. m ≤ 4096)
-summed_small sum n = by_lt (λ (r : Result ℕ Reason). IfOk r (λ m. m ≤ 4096)) 4096 (sum + n) (λ h. tt) (λ h. h)
 
 summed_outcome : (p sum n : ℕ) → (reject (ltb max_items (sum + n)) 10 p >> ok (sum + n)) ≡ outcome p (summed sum n)
 summed_outcome p sum n = go (ltb max_items (sum + n)) refl
@@ -29,7 +25,7 @@ summed_outcome p sum n = go (ltb max_items (sum + n)) refl
 more_items : (kind : Kind) (ends : Bool) (l : Lists) (g : Group) (sum n : ℕ)
     → ((p : ℕ) (y : Entry) → KeptAt l g.ref (some y) → count_added kind ends p g y ≡ ok n) → Counted kind ends l g sum (summed sum n)
 unfolding add_group
-more_items kind ends l g sum n t = record { result = λ p y k. rw (t p y k) (summed_outcome p sum n); small = summed_small sum n }
+more_items kind ends l g sum n t = record { result = λ p y k. rw (t p y k) (summed_outcome p sum n) }
 
 -- what a function gives for none, and for something
 of_none : {A : Type 0} (x : defined.Option A) → None ≡ option_of x → x ≡ none
@@ -49,30 +45,30 @@ module _ (ends : Bool) (l : Lists) (g : Group) (sum : ℕ) where
   -- 9: repetition 0 where the group does not end the descriptor
   pub too_early : ends ≡ false → factor g ≡ 0 → Counted rlo ends l g sum (Err NotCarried)
   unfolding add_group count_added
-  too_early e f = record { result = λ p y k. rw (f, e); small = tt }
+  too_early e f = record { result = λ p y k. rw (f, e) }
 
   module _ (carries : (eqb (factor g) 0 && not ends) ≡ false) where
     -- 9: elements taken of what has no extents
     pub none_taken : ItemsTaken l g None → Counted rlo ends l g sum (Err NotCarried)
     unfolding add_group count_added
-    none_taken t = record { result = λ p y k. rw (carries, of_none (count_taken (taken g) y) (t.result y k)); small = tt }
+    none_taken t = record { result = λ p y k. rw (carries, of_none (count_taken (taken g) y) (t.result y k)) }
 
     pub some_taken : (n : ℕ) → ItemsTaken l g (Some n) → Counted rlo ends l g sum (summed sum (factor g * n))
     unfolding count_added
     some_taken n t = more_items rlo ends l g sum (factor g * n) (λ p y k. rw (carries, of_some n (count_taken (taken g) y) (t.result y k)))
 
     -- repetition 0 adds nothing
-    pub rows_taken : (n : ℕ) → sum ≤ 4096 → factor g ≡ 0 → ItemsTaken l g (Some n) → Counted rlo ends l g sum (Ok sum)
-    rows_taken n h f t =
-        let same : summed sum (factor g * n) ≡ Ok sum = rw f (rw (le-ltb 4096 (sum + 0 * n) (omega arith)) (ap Ok (omega arith))) in
-        rw (← same) (some_taken n t)
+    pub rows_taken : (n : ℕ) → factor g ≡ 0 → ItemsTaken l g (Some n) → Counted rlo ends l g sum (summed sum 0)
+    rows_taken n f t =
+        let none : factor g * n ≡ 0 = rw f (omega arith) in
+        rw (← none) (some_taken n t)
 
 -- a group of a GDA
 module _ (l : Lists) (g : Group) (sum : ℕ) (ends : Bool) where
   -- 21: what it refers to does not fit
   pub misfit : FitsColumn l g false → Counted gda ends l g sum (Err ColumnMisfit)
   unfolding add_group count_added
-  misfit f = record { result = λ p y k. rw (← f.result y k); small = tt }
+  misfit f = record { result = λ p y k. rw (← f.result y k) }
 
   pub one_column : FitsColumn l g true → Counted gda ends l g sum (summed sum 1)
   unfolding count_added
@@ -83,7 +79,7 @@ module _ (head : ℕ) (ends : Bool) (l : Lists) (g : Group) (sum : ℕ) (small :
   -- 8: the id is not described
   pub group_missing : get_or l.starts g.ref 0 ≡ 65535 → AddedGroup (kind_of head) ends l g sum (Err MissingReference)
   unfolding add_group
-  group_missing h = record { result = λ p es agree. go p (lookup g.ref es) (agree g.ref small); small = tt }
+  group_missing h = record { result = λ p es agree. go p (lookup g.ref es) (agree g.ref small) }
     where
       go : (p : ℕ) (x : defined.Option Entry) → KeptAt l g.ref x → add_group (kind_of head) ends p sum g x ≡ outcome {A = ℕ} p (Err MissingReference)
       go p none k = refl
@@ -91,7 +87,7 @@ module _ (head : ℕ) (ends : Bool) (l : Lists) (g : Group) (sum : ℕ) (small :
 
   module _ (r : Result ℕ Reason) (here : get_or l.starts g.ref 0 ≡ 65535 → ⊥) where
     described : (kind : Kind) → Counted kind ends l g sum r → AddedGroup kind ends l g sum r
-    described kind c = record { result = λ p es agree. go p (lookup g.ref es) (agree g.ref small); small = c.small }
+    described kind c = record { result = λ p es agree. go p (lookup g.ref es) (agree g.ref small) }
       where
         go : (p : ℕ) (x : defined.Option Entry) → KeptAt l g.ref x → add_group kind ends p sum g x ≡ outcome p r
         go p none k = absurd (here k)

@@ -39,16 +39,13 @@ pub record FitsColumn (l : Lists) (g : Group) (r : Bool) : Type 0 where
 -- What adding a group to a row of `sum` items gives, where it refers to a described id, and where to any.
 pub record Counted (kind : Kind) (ends : Bool) (l : Lists) (g : Group) (sum : ℕ) (r : Result ℕ Reason) : Type 0 where
   pub result : (p : ℕ) (y : Entry) → KeptAt l g.ref (some y) → add_group kind ends p sum g (some y) ≡ outcome p r
-  pub small : IfOk r (λ n. n ≤ 4096)
 
 pub record AddedGroup (kind : Kind) (ends : Bool) (l : Lists) (g : Group) (sum : ℕ) (r : Result ℕ Reason) : Type 0 where
   pub result : (p : ℕ) (es : List (ℕ × Entry)) → Agree l es → add_group kind ends p sum g (lookup g.ref es) ≡ outcome p r
-  pub small : IfOk r (λ n. n ≤ 4096)
 
 -- What adding the groups gives.
 pub record AddedGroups (kind : Kind) (last : Bool) (gs : List Group) (l : Lists) (sum : ℕ) (r : Result ℕ Reason) : Type 0 where
   pub result : (p : ℕ) (es : List (ℕ × Entry)) → Agree l es → add_groups kind last p es sum gs ≡ outcome p r
-  pub small : IfOk r (λ n. n ≤ 4096)
 
 -- The bytes of an RLO, a GDA or a CPT are a head and one or more groups.
 pub record GoodRow (t : List ℕ) : Type 0 where

@@ -7,11 +7,13 @@ ghost use Rattle.fdoca.specs.Triplet.{rlo, gda, groups_of};
 ghost use Rattle.fdoca.specs.Check.{good_length_row, good_length_isd, good_isd};
 ghost use Rattle.plans.specs.Tied.{kind_of};
 ghost use Rattle.plans.specs.Left.{group_of};
-ghost use Rattle.triplets.specs.Judged.{summed, ItemsTaken, FitsColumn, Counted, AddedGroup, AddedGroups, JudgedRow, JudgedCPT, JudgedISD};
+ghost use Rattle.triplets.specs.Judged.{ItemsTaken, FitsColumn, Counted, AddedGroup, AddedGroups, JudgedRow, JudgedCPT, JudgedISD};
 
+mod counts;
+
+use counts::Count;
 use fdoca::Reason;
 use plans::{GDA, Group};
-use sdas::MOST;
 use tables::Tables;
 
 // The construct type of an RLO. A row's kind stays the construct type of its head, a number of the standard: a const parameter has to be a number.
@@ -27,17 +29,6 @@ fn row_length(t: &[u8]) -> bool
     t.len() >= 6 && t.len() % 3 == 0
 }
 
-// A row's count with n more items.
-fn total(sum: usize, n: usize) -> Result<usize, Reason>
-    requires { sum ≤ 4096 }
-    ensures { result ≡ summed sum n }
-{
-    if MOST - sum < n {
-        return Err(Reason::TooManyItems);
-    }
-    Ok(sum + n)
-}
-
 // How many items a group of an RLO takes once of a described id. None: a number of elements of what has no extents.
 fn items_taken(tables: &Tables, group: Group) -> Option<usize>
     ensures { ItemsTaken tables.now (group_of group) result }
@@ -51,29 +42,27 @@ fn items_taken(tables: &Tables, group: Group) -> Option<usize>
 
 // The count of an RLO with one more group, of repetition factor 0, which refers to a described id: 0 is carried where the group `ends` the descriptor,
 // and the group then adds nothing (document 02, Q-5). It has a function of its own, since asking for `ends` at each group takes time.
-fn add_rows(tables: &Tables, group: Group, sum: usize, ends: bool) -> Result<usize, Reason>
-    requires { sum ≤ 4096 }
+fn add_rows(tables: &Tables, group: Group, sum: Count, ends: bool) -> Result<Count, Reason>
     ensures { group.byte2 ≡ 0 → Counted rlo ends tables.now (group_of group) sum result }
 {
     if !ends {
         return Err(Reason::NotCarried);
     }
     match items_taken(tables, group) {
-        Some(_) => Ok(sum),
+        Some(_) => sum.plus(0),
         None => Err(Reason::NotCarried),
     }
 }
 
 // The count of an RLO with one more group, which refers to a described id.
-fn add_elements(tables: &Tables, group: Group, sum: usize, ends: bool) -> Result<usize, Reason>
-    requires { sum ≤ 4096 }
+fn add_elements(tables: &Tables, group: Group, sum: Count, ends: bool) -> Result<Count, Reason>
     ensures { Counted rlo ends tables.now (group_of group) sum result }
 {
     if group.byte2 == 0 {
         return add_rows(tables, group, sum, ends);
     }
     let items = items_taken(tables, group).ok_or(Reason::NotCarried)?;
-    total(sum, usize::from(group.byte2) * items)
+    sum.plus(usize::from(group.byte2) * items)
 }
 
 // Whether a column may be of a described id: of an SDA without extents, for whose type the length that the group gives is good.
@@ -90,24 +79,22 @@ fn fits(tables: &Tables, group: Group) -> bool
 }
 
 // The count of a GDA with one more group, which refers to a described id.
-fn add_column(tables: &Tables, group: Group, sum: usize) -> Result<usize, Reason>
-    requires { sum ≤ 4096 }
+fn add_column(tables: &Tables, group: Group, sum: Count) -> Result<Count, Reason>
     ensures { (ends : Bool) → Counted gda ends tables.now (group_of group) sum result }
 {
     if !fits(tables, group) {
         return Err(Reason::ColumnMisfit);
     }
-    total(sum, 1)
+    sum.plus(1)
 }
 
 // A row's count with one more group, HEAD being the construct type of the row's head.
 fn add_group<const HEAD: u8>(
     tables: &Tables,
     group: Group,
-    sum: usize,
+    sum: Count,
     ends: bool,
-) -> Result<usize, Reason>
-    requires { sum ≤ 4096 }
+) -> Result<Count, Reason>
     ensures { AddedGroup (kind_of HEAD) ends tables.now (group_of group) sum result }
 {
     if !tables.is_described(group.id) {
@@ -125,9 +112,9 @@ fn add_groups<const HEAD: u8>(
     t: &[u8],
     last: bool,
     tables: &Tables,
-    sum: usize,
-) -> Result<usize, Reason>
-    requires { (good_length_row t.now ≡ true) × (sum ≤ 4096) }
+    sum: Count,
+) -> Result<Count, Reason>
+    requires { good_length_row t.now ≡ true }
     ensures { AddedGroups (kind_of HEAD) last (groups_of t.now) tables.now sum result }
 {
     let mut groups = &t[3..];
@@ -146,8 +133,8 @@ fn add_groups<const HEAD: u8>(
 }
 
 // The same by the construct type of the row's head.
-fn add_triplet(t: &[u8], head: u8, last: bool, tables: &Tables, sum: usize) -> Result<usize, Reason>
-    requires { (good_length_row t.now ≡ true) × (sum ≤ 4096) }
+fn add_triplet(t: &[u8], head: u8, last: bool, tables: &Tables, sum: Count) -> Result<Count, Reason>
+    requires { good_length_row t.now ≡ true }
     ensures { AddedGroups (kind_of head) last (groups_of t.now) tables.now sum result }
 {
     if head == GDA {
@@ -170,7 +157,8 @@ pub fn judge_row(t: &[u8], last: bool, tables: &Tables) -> Result<usize, Reason>
     if tables.is_described(t[2]) {
         return Err(Reason::NameTaken);
     }
-    add_triplet(t, t[1], last, tables, 0)
+    let count = add_triplet(t, t[1], last, tables, Count::of(0))?;
+    Ok(count.items())
 }
 
 // The count of a row of `sum` items with those of a CPT. `head` is the construct type of the row's head.
@@ -191,7 +179,8 @@ pub fn judge_cpt(
     if t[2] != 0 {
         return Err(Reason::BadParameter);
     }
-    add_triplet(t, head, last, tables, sum)
+    let count = add_triplet(t, head, last, tables, Count::of(sum))?;
+    Ok(count.items())
 }
 
 // LENGTH of an ISD.

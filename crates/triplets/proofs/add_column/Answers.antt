@@ -5,4 +5,4 @@ pub returns-then-not-fits : goal.returns-then-not-fits
 returns-then-not-fits c ends = misfit _ _ _ ends c.if-not-fits.ensures
 
 pub returns : goal.returns
-returns c ends = rw c.total.ensures (one_column _ _ _ ends c.if-not-fits.ensures)
+returns c ends = rw c.plus.ensures (one_column _ _ _ ends c.if-not-fits.ensures)

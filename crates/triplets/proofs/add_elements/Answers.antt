@@ -15,4 +15,4 @@ returns-in_err-items c =
 pub returns : goal.returns
 returns c =
     let some : c.items_taken.result ≡ Some c.in_ok-items.items = grind arith in
-    rw (c.total.ensures, c.from.ensures) (some_taken _ _ _ _ (carried _ _ c.if-group-eq0.false) _ (rw some at c.items_taken.ensures))
+    rw (c.plus.ensures, c.from.ensures) (some_taken _ _ _ _ (carried _ _ c.if-group-eq0.false) _ (rw some at c.items_taken.ensures))

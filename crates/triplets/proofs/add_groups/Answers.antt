@@ -8,7 +8,7 @@ use Rattle.triplets.proofs.add_groups.Goals as goal
 use Rattle.triplets.proofs.add_groups.Goals.{then-last, else-last, After-add_group}
 
 pub loop-groups-init : goal.loop-groups-init
-loop-groups-init g c = adding_start _ _ _ _ _ c.requires.0 c.requires.1
+loop-groups-init g c = adding_start _ _ _ _ _ c.requires
 
 -- whether the group ends the descriptor
 ends : (g : Over) (c : After-add_group g) → c.if-last.ends ≡ (c.args.last && is_empty (threes (drop 3 c.loop-groups.groups.now)))

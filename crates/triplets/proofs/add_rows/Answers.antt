@@ -5,7 +5,7 @@ pub returns-then-not-ends : goal.returns-then-not-ends
 returns-then-not-ends c zero = too_early _ _ _ _ c.if-not-ends.true zero
 
 pub returns-in-Some : goal.returns-in-Some
-returns-in-Some c zero = rows_taken _ _ _ _ (rw (c.if-not-ends.false, zero)) _ c.requires zero c.in-Some.ensures
+returns-in-Some c zero = rw c.plus.ensures (rows_taken _ _ _ _ (rw (c.if-not-ends.false, zero)) _ zero c.in-Some.ensures)
 
 pub returns-in-None : goal.returns-in-None
 returns-in-None c zero = none_taken _ _ _ _ (rw (c.if-not-ends.false, zero)) c.in-None.ensures
