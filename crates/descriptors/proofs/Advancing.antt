@@ -21,14 +21,10 @@ use Rattle.fdoca.specs.Check.{check_triplets, begin}
 use Rattle.fdoca.specs.Unfolding.{Described, closed}
 use Rattle.fdoca.specs.Between.{entries, state}
 use Rattle.tables.specs.Lists.{Lists}
-use Rattle.sdas.specs.Tables.{Agreeing}
 use Rattle.triplets.specs.Judged.{JudgedISD}
 use Rattle.descriptors.specs.declared.Step.{Step}
 use Rattle.descriptors.specs.Holds.{Tables, EndsAt, no_cpt, Last, Held, ClosedRow, TookSDA, SteppedSDA, TookRow, SteppedRow, TookCPT, SteppedCPT, Moved, Advanced}
 use Rattle.descriptors.proofs.Moving.{sda_refused, sda_moved, row_refused, row_moved, cpt_refused, cpt_moved, isd_refused, isd_moved, other_refused}
-
-pub held_agree : (d : List ℕ) (T : Lists) (p : ℕ) (x : Option Step) → Held d T p x → Agreeing T.starts T.sizes T.entries
-held_agree d T p x held = record { described_ids = entries held.0.described; agrees = held.1.tables.agrees }
 
 pub held_few : (d : List ℕ) (T : Lists) (p : ℕ) (x : Option Step) → Held d T p x → IfSome x (λ y. y.count ≤ 4096)
 held_few d T p x held = go x (closed held.0) held.1.last
@@ -65,9 +61,6 @@ module _ (d : List ℕ) (T : Lists) (p n k : ℕ) (x : Option Step) (held : Held
   module _ (T' : Lists) (cl : ClosedRow d T T' p x) (nc : k ≡ 0x7F → ⊥) where
     tables : Tables d T'.starts T'.sizes T'.entries (closed held.0) p
     tables = cl.tables held.0 held.1 (ends nc)
-
-    pub tables_agree : Agreeing T'.starts T'.sizes T'.entries
-    tables_agree = record { described_ids = entries (closed held.0); agrees = tables.agrees }
 
     pub sda_stopped : (T'' : Lists) (r : Result (Option Step) Reason) (m : Reason) → k ≡ 0x70 → SteppedSDA (take (p + n - p) (drop p d)) p T' T'' (Err m)
         → IsErrAnd r (λ y. y ≡ m) → Advanced d T'' p r

@@ -7,7 +7,7 @@ use mathlib.Core.Bool.{Bool}
 use mathlib.Core.List.{List, map}
 use lib.ListN.{length}
 use lib.Seq.{sets, length-sets, take_all}
-use Rattle.std.specs.Prelude.{Ok, Err}
+use Rattle.std.specs.Prelude.{Err}
 use Rattle.fdoca.specs.declared.Refusal.{Refusal}
 use Rattle.fdoca.specs.Basics.{refuse, ok}
 use Rattle.fdoca.specs.Basics as defined
@@ -17,7 +17,6 @@ use Rattle.fdoca.specs.Unfolding.{unfolded, repeated}
 use Rattle.fields.specs.Plan.{entry_of, Planned}
 use Rattle.plans.specs.Tied.{described_by, list_of}
 use Rattle.plans.proofs.Fields.{planned, first_numbers}
-use Rattle.descriptors.specs.declared.Examined.{Examined}
 use Rattle.descriptors.specs.Holds.{Ready, examined, Examination}
 
 -- the check's refusal, which examining gave
@@ -40,9 +39,6 @@ refused_check d s z e w x = go (refused_by_lem d s z e w x)
   where
     go : RefusedBy d w → Err w ≡ returned (check d)
     go r = rw (r.refused, r.same)
-
-pub accepted_check : (d s z e : List ℕ) (x : Examined) → Examination d s z e (Ok x) → Ok x.items ≡ returned (check d)
-accepted_check d s z e x w = rw (w.ready x refl).accepted
 
 module _ (d s z e plan : List ℕ) (id : ℕ) (rows : Bool) (rd : Ready d s z e id (length plan) rows) where
   pub ready_room : length (list_of d id) ≤ length plan

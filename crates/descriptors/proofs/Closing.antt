@@ -124,14 +124,6 @@ module _ (d : List ℕ) (T : Lists) (p : ℕ) (x : Option Step) where
           subst (λ i. Tables d (set T.starts y.id q) (set T.sizes y.id size) (set T.entries y.id 0) ((i, row v.1) ∷ u.described) p) l.same_id
           (tables_put d T.starts T.sizes T.entries u.described p h.tables y.id q size 0 (row v.1) g f p (omega arith) lt e j)
 
-  pub close_none : row_of x ≡ None → ClosedRow d T T p x
-  close_none n = record { tables = λ u h k. go u h u.current (subst (λ v. Current d T.starts u.described p v u.current) n h.current) }
-    where
-      go : (u : Layouts) → Holds d T p x u → (o : defined_option.Option (ℕ × List Field × Kind)) → Current d T.starts u.described p None o
-          → Tables d T.starts T.sizes T.entries (close_row u.described o) p
-      go u h none c = h.tables
-      go u h (some v) c = absurd c
-
   -- where the row of the step before stands
   row_fits : (r : Row) → Held d T p x → row_of x ≡ Some r → (6 ≤ get_or d r.at 0) × (r.at + get_or d r.at 0 ≤ p)
   row_fits r h e = go h.0.current (subst (λ v. Current d T.starts h.0.described p v h.0.current) e h.1.current)
@@ -149,11 +141,3 @@ module _ (d : List ℕ) (T : Lists) (p : ℕ) (x : Option Step) where
 
   pub held_small : Held d T p x → length d ≤ 4096 → p ≤ 4096
   held_small h k = omega (arith, h.1.there)
-
-  -- the step before is of the last described id
-  pub step_small : (y : Step) → Held d T p x → x ≡ Some y → y.count ≤ 4096
-  step_small y h ex = go (closed h.0) (subst (λ v. Last v (closed h.0)) ex h.1.last)
-    where
-      go : (ds : List (ℕ × Described)) → Last (Some y) ds → y.count ≤ 4096
-      go [] l = absurd l
-      go (c ∷ ds) l = l.small

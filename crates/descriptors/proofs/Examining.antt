@@ -11,8 +11,6 @@ use mathlib.Core.Option.{none, some}
 use mathlib.Core.Option as defined_option
 use lib.Dec.{eqb}
 use lib.ListN.{length, get_or, take, drop, replicate, length-replicate, get_or-replicate}
-use mir.Syntax.{w64}
-use mir.Val.{Fits}
 use borrow.Author.Tests.{lt-ltb, le-ltb, eq-eqb, ne_eqb}
 use Rattle.std.specs.Prelude.{Option, Some, None, Result, Ok, Err, IsErrAnd, MatchResult}
 use Rattle.std.proofs.lemmas.Result.{err_from_is_err_and}
@@ -111,9 +109,6 @@ module _ (d : List ℕ) (q p : ℕ) (l : LastAt d q p) where
       go (none_yet o) = rw o (rw (sub-zero (length d)))
       go (behind f i m o t) = f ∙ rw (whole_at q i m (omega arith), ← o) (last_cons (triplet q (take (get_or d q 0) (drop q d))) (triplets_at d p) (triplets_left d p h))
 
-  pub last_small : q ≤ p → (T : Lists) (x : Option Step) → Held d T p x → length d ≤ 4096 → q < 4294967296
-  last_small h T x w k = omega (arith, w.1.there)
-
   pub last_end : 0 < p → length d ≤ p → last_place (triplets d) ≡ q
   last_end h all = go l
     where
@@ -129,15 +124,8 @@ stopped d T p w m small a q =
 
 module _ (d : List ℕ) (T : Lists) (p : ℕ) (x : Option Step) where
   -- from one triplet to the next
-  module _ (a : Moved d T p x) where
-    pub at_next : (n : ℕ) → n ≡ get_or d p 0 → Held d T (p + n) x
-    at_next n en = rw en a.held
-
-    pub next_fits : (n : ℕ) → n ≡ get_or d p 0 → length d ≤ 4096 → Fits w64 (p + n)
-    next_fits n en small = let k : p + n ≤ length d = (at_next n en).1.there in record { fits = omega arith }
-
-    pub next_less : (n : ℕ) → n ≡ get_or d p 0 → p < length d → length d - (p + n) < length d - p
-    next_less n en k = let m : 2 ≤ get_or d p 0 = a.least in omega arith
+  pub at_next : Moved d T p x → (n : ℕ) → n ≡ get_or d p 0 → Held d T (p + n) x
+  at_next a n en = rw en a.held
 
   -- behind the last triplet
   module _ (held : Held d T p x) (all : length d ≤ p) (small : length d ≤ 4096) where

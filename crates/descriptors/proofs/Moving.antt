@@ -2,7 +2,7 @@
 -- Assumes nothing.
 use Rattle.std.specs.Prelude.{Option, Some, None}
 use mathlib.Core.Path.{◌≡◌, refl, sym, ap, ◌∙◌, subst}
-use mathlib.Core.Logic.{◌≢◌, ◌⊎◌, inl, inr}
+use mathlib.Core.Logic.{◌⊎◌, inl, inr}
 use Prim.Native.Nat.{ℕ, zero, suc, ◌+◌, ◌-◌, ◌*◌, ◌/◌, ◌%◌, ◌≤◌, ◌<◌}
 use native.Mathlib.Omega.{arith}
 use native.Mathlib.Nat.{mul-zero}
@@ -203,13 +203,6 @@ module _ (t : List ℕ) (p : ℕ) (kind : (get_or t 1 0 ≡ 0x71) ⊎ (get_or t 
       go : (get_or t 1 0 ≡ 0x71) ⊎ (get_or t 1 0 ≡ 0x75) → unfold_triplet u (triplet p t) ≡ unfold_row (kind_of (get_or t 1 0)) u t
       go (inl q) = rw q
       go (inr q) = rw q
-
-  head_given : get_or t 1 0 ≢ 0
-  head_given = go kind
-    where
-      go : (get_or t 1 0 ≡ 0x71) ⊎ (get_or t 1 0 ≡ 0x75) → get_or t 1 0 ≢ 0
-      go (inl q) k = omega arith
-      go (inr q) k = omega arith
 
 -- behind an RLO or a GDA
 module _ (d : List ℕ) (T T' : Lists) (p n : ℕ) (x : Option Step) (u : Layouts) (h : Holds d T p x u) (there : p < length d) (en : n ≡ get_or d p 0)

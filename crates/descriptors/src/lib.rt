@@ -7,7 +7,6 @@ ghost use Rattle.fdoca.specs.Check.{check};
 ghost use Rattle.fdoca.specs.Unfolding.{endless};
 ghost use Rattle.fdoca.specs.Returned.{returned};
 ghost use Rattle.rows.specs.Pass.{pass_list};
-ghost use Rattle.sdas.specs.Tables.{Agreeing};
 ghost use Rattle.descriptors.specs.Holds.{MakesSame, Held, ClosedRow, SteppedSDA, SteppedRow, SteppedCPT, Advanced, to_the_end, last_byte, Repeating, Examination};
 
 use fdoca::{Reason, Refusal};
@@ -90,7 +89,6 @@ fn sda_step(t: &[u8], p: usize, tables: &mut Tables) -> Result<Step, Reason>
 }
 
 fn row_step(t: &[u8], p: usize, last: bool, tables: &Tables) -> Result<Step, Reason>
-    requires { Agreeing tables.now.starts tables.now.sizes tables.now.entries }
     ensures { SteppedRow last t.now p tables.now result }
 {
     let count = triplets::judge_row(t, last, tables)?;
@@ -103,7 +101,7 @@ fn row_step(t: &[u8], p: usize, last: bool, tables: &Tables) -> Result<Step, Rea
 
 #[tactic(auto, unfolding(fdoca::specs::Check::check_cpt))]
 fn cpt_step(t: &[u8], last: bool, tables: &Tables, x: Option<Step>) -> Result<Step, Reason>
-    requires { Agreeing tables.now.starts tables.now.sizes tables.now.entries × IfSome x (λ x. x.count ≤ 4096) }
+    requires { IfSome x (λ x. x.count ≤ 4096) }
     ensures { SteppedCPT last t.now tables.now x result }
 {
     let step = x.ok_or(Reason::OutOfSequence)?;

@@ -1,7 +1,7 @@
 use mathlib.Core.Path.{refl}
 use native.Mathlib.Omega.{arith}
 use Rattle.descriptors.proofs.Moving.{torn_short, torn_past}
-use Rattle.descriptors.proofs.Advancing.{held_agree, held_few, cpt_stopped, over_cpt, tables_agree, sda_stopped, over_sda, row_stopped, over_row, isd_stopped, over_isd, over_other}
+use Rattle.descriptors.proofs.Advancing.{held_few, cpt_stopped, over_cpt, sda_stopped, over_sda, row_stopped, over_row, isd_stopped, over_isd, over_other}
 use borrow.Author.Rules.{rules}
 use Rattle.descriptors.proofs.advance.Goals as goal
 use Rattle.descriptors.proofs.advance.Goals.{then-n-lt2-via-then-n-lt2, then-n-lt2-via-else-n-lt2+then-desc-p}
@@ -14,16 +14,13 @@ returns-then-n-lt2 c =
     ]
 
 pub cpt_step-requires : goal.cpt_step-requires
-cpt_step-requires c = search (rules, held_agree, held_few)
+cpt_step-requires c = search (rules, held_few)
 
 pub returns-in_err-cpt_step : goal.returns-in_err-cpt_step
 returns-in_err-cpt_step c = cpt_stopped _ _ _ _ _ _ c.requires.0 c.requires.1 c.from-n.ensures c.if-n-lt2.false c.if-desc-p.false refl _ _ c.if-kind-eq-CPT.true c.in_err-cpt_step.ensures c.from_residual.ensures.1
 
 pub returns-then-kind-eq-CPT : goal.returns-then-kind-eq-CPT
 returns-then-kind-eq-CPT c = over_cpt _ _ _ _ _ _ c.requires.0 c.requires.1 c.from-n.ensures c.if-n-lt2.false c.if-desc-p.false refl _ c.if-kind-eq-CPT.true c.in_ok-cpt_step.ensures
-
-pub row_step-requires : goal.row_step-requires
-row_step-requires c = tables_agree _ _ _ _ _ _ c.requires.0 c.requires.1 c.from-n.ensures c.if-n-lt2.false c.if-desc-p.false refl _ c.close.ensures c.if-kind-eq-CPT.false
 
 pub returns-in_err-sda_step-in-112 : goal.returns-in_err-sda_step-in-112
 returns-in_err-sda_step-in-112 c = sda_stopped _ _ _ _ _ _ c.requires.0 c.requires.1 c.from-n.ensures c.if-n-lt2.false c.if-desc-p.false refl _ c.close.ensures c.if-kind-eq-CPT.false _ _ _ c.in-112.is c.in_err-sda_step-in-112.ensures c.from_residual-in_err-sda_step-in-112.ensures.1
