@@ -40,7 +40,7 @@ pub struct Examined {
 // The most bytes that a descriptor has.
 const MOST_BYTES: usize = 4096;
 
-// The construct types.
+// The construct types, as the bytes that they are in a descriptor: each is told apart once, where it is read, so an enum would say no more.
 const SDA: u8 = 0x70;
 
 const ISD: u8 = 0x7E;
