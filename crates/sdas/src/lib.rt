@@ -97,7 +97,8 @@ impl<'a> DataArray<'a> {
 
     // The plan's entry for its field.
     fn entry(&self, shape: Shape) -> u64
-        requires { (good_sda self.now.bytes.now ≡ true) × (shape ≡ shape_of (code_of self.now.bytes.now) (parameters_of self.now.bytes.now)) }
+        requires good { good_sda self.now.bytes.now ≡ true }
+        requires shape { shape ≡ shape_of (code_of self.now.bytes.now) (parameters_of self.now.bytes.now) }
         ensures { EntryOf self.now.bytes.now result }
     {
         let bytes = self.bytes;
@@ -125,7 +126,12 @@ pub fn judge_sda(t: &[u8], tables: &Tables) -> Result<Judged, Reason>
 
 // Enters an SDA at p into the tables.
 pub fn put_sda(t: &[u8], p: usize, judged: Judged, tables: &mut Tables)
-    requires { (good_length_sda t.now ≡ true) × (good_sda t.now ≡ true) × (p < 4096) × (judged.count ≡ product (extents_of t.now)) × (judged.count ≤ 4096) × (judged.shape ≡ shape_of (code_of t.now) (parameters_of t.now)) }
+    requires good_length { good_length_sda t.now ≡ true }
+    requires good { good_sda t.now ≡ true }
+    requires place { p < 4096 }
+    requires count { judged.count ≡ product (extents_of t.now) }
+    requires small { judged.count ≤ 4096 }
+    requires shape { judged.shape ≡ shape_of (code_of t.now) (parameters_of t.now) }
     ensures { PutSDA t.now p tables.old.starts tables.old.sizes tables.old.entries tables.new.starts tables.new.sizes tables.new.entries }
 {
     let sda = DataArray { bytes: t };
