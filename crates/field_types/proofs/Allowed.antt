@@ -14,16 +14,18 @@ use lib.ListN.{length, get_or}
 use borrow.Author.Tests.{lt-ltb, le-ltb, le-leb, lt-leb, eq-eqb, ne_eqb}
 use mir.Val.{bool_byte}
 use Rattle.fdoca.specs.Basics.{big}
-use Rattle.fdoca.specs.FieldType.{FieldType, fixed_bytes, variable_bytes, terminated_bytes, short_bytes, integer, reversed_integer, packed_decimal, hex_float, reversed_float, binary_float, type_of, Size, bytes, digits, up_to, one_of, digits_up_to, size_of, allows, rule_of, length_that_holds, suits}
+use Rattle.fdoca.specs.FieldType.{fixed_bytes, variable_bytes, terminated_bytes, short_bytes, integer, reversed_integer, packed_decimal, hex_float, reversed_float, binary_float, type_of, Size, bytes, digits, up_to, one_of, digits_up_to, size_of, allows, rule_of, length_that_holds, suits}
 use Rattle.fdoca.specs.FieldType as definition
 use Rattle.fdoca.specs.Triplet.{bias_of, mode_of, size_in}
 use Rattle.fdoca.specs.Check.{most, good_parameters, good_type, suits_type, good_column}
 use Rattle.fdoca.proofs.Account.{big_two}
+use Rattle.field_types.specs.declared.FieldType.{FieldType}
 use Rattle.field_types.specs.declared.Sizes.{Sizes}
 use Rattle.field_types.specs.declared.Sizes.TheVariants.{UpTo, Two, Three, DigitsUpTo}
 use Rattle.field_types.specs.declared.Rule.{Rule}
 use Rattle.field_types.specs.declared.Shape.{Shape}
-use Rattle.field_types.specs.Rows.{sizes_of, given, IsRule, StandsFor, with_rule, rule_for}
+use Rattle.field_types.specs.Types.{defined_type, maybe_defined}
+use Rattle.field_types.specs.Rows.{sizes_of, given, IsRule, rule_for}
 use Rattle.field_types.specs.Parameters.{unused_zero, allows_number, rule_allows, good_eight, layout_for, size_number, shape_of, shape_if}
 use Rattle.numbers.proofs.Pairs.{two_at}
 
@@ -78,11 +80,10 @@ module _ (r : Rule) (bias mode size n : ℕ) (e : n ≡ bool_byte r.has_bias) wh
     unfolding rule_allows
     size_told v g k x a = rw (← tested r.has_bias bias n e, le-leb bias n h, ← tested r.has_mode mode m f, ← k, x) a
 
--- what stands for a type is its rule
-is_rule : (o : defined_option.Option FieldType) (r : Rule) → StandsFor o (Some r) → IsRule r (rule_for o)
+-- the rule of a type is that by which its codes are judged
+is_rule : (o : defined_option.Option definition.FieldType) (T : FieldType) (r : Rule) → some (defined_type T) ≡ o → IsRule r (rule_of (defined_type T)) → IsRule r (rule_for o)
 unfolding rule_for
-is_rule none r h = elim h [ ]
-is_rule (some T) r (with_rule h) = h
+is_rule o T r e h = rw (← e) h
 
 -- a type whose size is in digits has no default
 abbrev NoDefault : definition.Sizes → defined_option.Option ℕ → Type 0
@@ -90,7 +91,7 @@ NoDefault (up_to n) o = Unit {0}
 NoDefault (one_of ns) o = Unit {0}
 NoDefault (digits_up_to n) o = o ≡ none
 
-no_default : (o : defined_option.Option FieldType) → NoDefault (rule_for o).sizes (rule_for o).default
+no_default : (o : defined_option.Option definition.FieldType) → NoDefault (rule_for o).sizes (rule_for o).default
 unfolding rule_for rule_of
 no_default none = tt
 no_default (some fixed_bytes) = tt
@@ -144,12 +145,12 @@ unused_first true true false false e f = refl
 unused_first true false c d e f = refl
 unused_first false b c d e f = refl
 
-good_type_lem : (o : defined_option.Option FieldType) (ps : List ℕ) → good_type o ps ≡ good_parameters (rule_for o) ps
+good_type_lem : (o : defined_option.Option definition.FieldType) (ps : List ℕ) → good_type o ps ≡ good_parameters (rule_for o) ps
 unfolding good_parameters rule_for
 good_type_lem none ps = simp and-false
 good_type_lem (some T) ps = refl
 
-by_parts : (o : defined_option.Option FieldType) (ps : List ℕ) → good_type o ps ≡ unused_zero ps && allowed (rule_for o) (bias_of ps) (mode_of ps) (size_in (rule_for o) ps)
+by_parts : (o : defined_option.Option definition.FieldType) (ps : List ℕ) → good_type o ps ≡ unused_zero ps && allowed (rule_for o) (bias_of ps) (mode_of ps) (size_in (rule_for o) ps)
 unfolding good_parameters unused_zero
 by_parts o ps =
     good_type_lem o ps
@@ -196,20 +197,16 @@ module _ (code : ℕ) (ps : List ℕ) where
   unfolding good_eight
   unused_set z e f = simp (by_parts, ← e, f, and-false)
 
-  pub without_rule : StandsFor (type_of code) None → good_eight code ps ≡ false
+  pub without_type : maybe_defined None ≡ type_of code → good_eight code ps ≡ false
   unfolding good_eight
-  without_rule h = go (type_of code) h
-    where
-      go : (o : defined_option.Option FieldType) → StandsFor o None → eqb (length ps) 8 && good_type o ps ≡ false
-      go none k = simp and-false
-      go (some T) k = elim k [ ]
+  without_type h = rw (← h) (simp and-false)
 
-  module _ (r : Rule) (s : StandsFor (type_of code) (Some r)) (n size : ℕ) (e : n ≡ big (get_or ps 6 0 ∷ get_or ps 7 0 ∷ [])) (low : get_or ps 7 0 < 256) (es : size ≡ length_that_holds (given r.default) n) where
+  module _ (T : FieldType) (r : Rule) (t : maybe_defined (Some T) ≡ type_of code) (i : IsRule r (rule_of (defined_type T))) (n size : ℕ) (e : n ≡ big (get_or ps 6 0 ∷ get_or ps 7 0 ∷ [])) (low : get_or ps 7 0 < 256) (es : size ≡ length_that_holds (given r.default) n) where
     abbrev rule : definition.Rule
     rule = rule_for (type_of code)
 
     is : IsRule r rule
-    is = is_rule (type_of code) r s
+    is = is_rule (type_of code) T r t i
 
     size_is : (size ≡ size_number (size_in rule ps)) × (size_of rule.sizes (size / 256) (size % 256) ≡ size_in rule ps)
     size_is = held rule ps n size low e (rw is.default at es) (no_default (type_of code))
@@ -239,16 +236,13 @@ module _ (code a b n : ℕ) (e : n ≡ big (a ∷ b ∷ [])) where
     unfolding good_column
     judged = rw (← is_two, lt-ltb 0 n (omega (arith, above)))
 
-    pub suits_none : StandsFor (type_of code) None → false ≡ good_column code a b
-    suits_none h = go (type_of code) h ∙ judged
-      where
-        go : (o : defined_option.Option FieldType) → StandsFor o None → false ≡ suits_type o a b
-        go none k = refl
-        go (some T) k = elim k [ ]
+    pub suits_none : maybe_defined None ≡ type_of code → false ≡ good_column code a b
+    suits_none h = (rw (← h) refl) ∙ judged
 
-    pub suits_rule : (r : Rule) (g : Bool) → StandsFor (type_of code) (Some r) → b < 256 → g ≡ allows_number (sizes_of r.sizes) n → g ≡ good_column code a b
+    pub suits_rule : (T : FieldType) (r : Rule) (g : Bool) → maybe_defined (Some T) ≡ type_of code → IsRule r (rule_of (defined_type T)) → b < 256
+        → g ≡ allows_number (sizes_of r.sizes) n → g ≡ good_column code a b
     unfolding allows_number
-    suits_rule r g h low k = k ∙ go (type_of code) h ∙ judged
+    suits_rule T r g h k low l = l ∙ rw (k.sizes, x, y) told ∙ judged
       where
         x : n / 256 ≡ a
         x = omega (arith, is_two)
@@ -256,6 +250,5 @@ module _ (code a b n : ℕ) (e : n ≡ big (a ∷ b ∷ [])) where
         y : n % 256 ≡ b
         y = omega (arith, is_two)
 
-        go : (o : defined_option.Option FieldType) → StandsFor o (Some r) → allows (sizes_of r.sizes) (size_of (sizes_of r.sizes) (n / 256) (n % 256)) ≡ suits_type o a b
-        go none k = elim k [ ]
-        go (some T) (with_rule k) = rw (k.sizes, x, y) refl
+        told : suits (rule_of (defined_type T)) a b ≡ suits_type (type_of code) a b
+        told = rw (← h) refl

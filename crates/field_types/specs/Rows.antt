@@ -1,9 +1,8 @@
--- The rules of the code (document 01, "Field types"), and that of the definitions that each stands for (document 02, Q-3).
+-- The rules of the code (document 01, "Field types"), and what they mean (document 02, Q-3).
 use Rattle.std.specs.Prelude.{ℕ, ◌≡◌, false, [], ◌∷◌, Option, None, Some}
 use Rattle.std.proofs.Math.Option.{none, some}
 use Rattle.std.proofs.Math.Option as defined_option
-use Rattle.fdoca.specs.Basics.{lookup}
-use Rattle.fdoca.specs.FieldType.{FieldType, types, fixed, up_to, one_of, digits_up_to, rule, rule_of}
+use Rattle.fdoca.specs.FieldType.{FieldType, fixed, up_to, one_of, digits_up_to, rule, rule_of}
 use Rattle.fdoca.specs.FieldType as definition
 use Rattle.field_types.specs.declared.Sizes.{Sizes}
 use Rattle.field_types.specs.declared.Sizes.TheVariants.{UpTo, Two, Three, DigitsUpTo}
@@ -21,10 +20,6 @@ unfoldable pub given : Option ℕ → defined_option.Option ℕ
 given None = none
 given (Some n) = some n
 
--- The type that a plain code stands for.
-unfoldable pub type_at : (code : ℕ) → defined_option.Option FieldType
-type_at code = lookup code types
-
 -- A rule of the code is one of the definitions.
 pub record IsRule (r : Rule) (d : definition.Rule) : Type 0 where
   pub layout : r.layout ≡ form_of d.sizes d.layout
@@ -32,11 +27,6 @@ pub record IsRule (r : Rule) (d : definition.Rule) : Type 0 where
   pub default : given r.default ≡ d.default
   pub has_mode : r.has_mode ≡ d.has_mode
   pub has_bias : r.has_bias ≡ d.has_bias
-
--- The rule of a type, and none where there is no type.
-pub data StandsFor : defined_option.Option FieldType → Option Rule → Type 0 where
-  no_rule : StandsFor none None
-  with_rule : {T : FieldType} {r : Rule} → IsRule r (rule_of T) → StandsFor (some T) (Some r)
 
 -- The rule by which a code is judged: where there is no type, no size is allowed.
 unfoldable pub rule_for : defined_option.Option FieldType → definition.Rule

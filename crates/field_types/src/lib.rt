@@ -1,19 +1,33 @@
-// Field types (document 01, "Field types"; document 02, Q-1 to Q-4): the plain code of a type code, the rule that it finds, the size that holds
-// for an SDA's type parameters, and their test; and the test of a length that replaces theirs.
+// Field types (document 01, "Field types"; document 02, Q-1 to Q-4): the type of a type code, its rule, the size that holds for an SDA's type
+// parameters, and their test; and the test of a length that replaces theirs.
 
 #![tactic(auto)]
 
 ghost use Rattle.std.specs.Prelude.{◌≡◌, length};
-ghost use Rattle.fdoca.specs.FieldType.{plain, type_of, allows, length_that_holds, digits_up_to, digits};
+ghost use Rattle.fdoca.specs.FieldType.{plain, type_of, rule_of, allows, length_that_holds, digits_up_to, digits};
 ghost use Rattle.fdoca.specs.Check.{good_column};
 ghost use Rattle.field_types.specs.Layouts.{number_of, numbered};
-ghost use Rattle.field_types.specs.Rows.{type_at, sizes_of, given, StandsFor};
+ghost use Rattle.field_types.specs.Types.{defined_type, maybe_defined};
+ghost use Rattle.field_types.specs.Rows.{sizes_of, given, IsRule};
 ghost use Rattle.field_types.specs.Parameters.{unused_zero, allows_number, rule_allows, good_eight, in_digits, shape_if};
 
 use numbers::pair;
 
-// The plain code of a packed decimal.
-const PACKED: u8 = 0x30;
+// The types that are carried: bytes of a fixed length, behind a length field of two bytes, before a zero byte and behind a length field of one byte;
+// whole numbers, also byte-reversed, and packed decimals; hexadecimal floats, and binary ones, byte-reversed or not.
+#[derive(Clone, Copy, Debug, PartialEq, Eq)]
+pub enum FieldType {
+    FixedBytes,
+    VariableBytes,
+    TerminatedBytes,
+    ShortBytes,
+    Integer,
+    ReversedInteger,
+    PackedDecimal,
+    HexFloat,
+    ReversedFloat,
+    BinaryFloat,
+}
 
 // Where a value ends: after all bytes of its size, after as many as a length field of one byte or of two says, or before a zero byte; and that of
 // a packed decimal, which is fixed too, with its size in digits.
@@ -192,40 +206,51 @@ pub fn plain_code(code: u8) -> u8
     if code < 128 { code } else { code - 128 }
 }
 
-// The rule that a plain code finds. Each index is a constant, so that the table is never copied to be read.
-fn rule_at(code: u8) -> Option<Rule>
-    ensures { StandsFor (type_at code) result }
-{
-    let rule = match code {
-        0x01 => RULES[0],
-        0x02 => RULES[1],
-        0x03 => RULES[2],
-        0x07 => RULES[3],
-        0x23 => RULES[4],
-        0x24 => RULES[4],
-        0x30 => RULES[5],
-        0x40 => RULES[6],
-        0x47 => RULES[7],
-        0x48 => RULES[7],
-        _ => return None,
-    };
-    Some(rule)
-}
+impl FieldType {
+    // The type that a code stands for, plain or nullable.
+    #[tactic(auto, unfolding(fdoca::specs::FieldType::type_of))]
+    pub fn of_code(code: u8) -> Option<FieldType>
+        ensures { maybe_defined result ≡ type_of code }
+    {
+        match plain_code(code) {
+            0x01 => Some(FieldType::FixedBytes),
+            0x02 => Some(FieldType::VariableBytes),
+            0x03 => Some(FieldType::TerminatedBytes),
+            0x07 => Some(FieldType::ShortBytes),
+            0x23 => Some(FieldType::Integer),
+            0x24 => Some(FieldType::ReversedInteger),
+            0x30 => Some(FieldType::PackedDecimal),
+            0x40 => Some(FieldType::HexFloat),
+            0x47 => Some(FieldType::ReversedFloat),
+            0x48 => Some(FieldType::BinaryFloat),
+            _ => None,
+        }
+    }
 
-// The rule by which a type code is judged: that of its plain code.
-fn rule_of(code: u8) -> Option<Rule>
-    ensures { StandsFor (type_of code) result }
-{
-    let plain = plain_code(code);
-    rule_at(plain)
+    // The rule of a type. Each index is a constant, so that the table is never copied to be read.
+    #[tactic(auto, unfolding(fdoca::specs::FieldType::rule_of, crate::specs::Rows::sizes_of, crate::specs::Rows::given, crate::specs::Layouts::form_of, crate::specs::Layouts::numbered, crate::specs::Layouts::prefix_of))]
+    fn rule(self) -> Rule
+        ensures { IsRule result (rule_of (defined_type self)) }
+    {
+        match self {
+            FieldType::FixedBytes => RULES[0],
+            FieldType::VariableBytes => RULES[1],
+            FieldType::TerminatedBytes => RULES[2],
+            FieldType::ShortBytes => RULES[3],
+            FieldType::Integer | FieldType::ReversedInteger => RULES[4],
+            FieldType::PackedDecimal => RULES[5],
+            FieldType::HexFloat => RULES[6],
+            FieldType::ReversedFloat | FieldType::BinaryFloat => RULES[7],
+        }
+    }
 }
 
 // Whether the size of a code's type is in digits: that of a packed decimal.
+#[tactic(auto, using(crate::proofs::Rows::no_digits, crate::proofs::Rows::packed_digits, crate::proofs::Rows::other_digits))]
 pub fn in_digits(code: u8) -> bool
     ensures { result ≡ in_digits code }
 {
-    let plain = plain_code(code);
-    plain == PACKED
+    matches!(FieldType::of_code(code), Some(FieldType::PackedDecimal))
 }
 
 // Whether the bytes that hold no type parameter are zero.
@@ -244,8 +269,8 @@ pub fn good_length(code: u8, a: u8, b: u8) -> bool
     if length == 0 {
         return true;
     }
-    match rule_of(code) {
-        Some(rule) => rule.sizes.allow(length),
+    match FieldType::of_code(code) {
+        Some(field_type) => field_type.rule().sizes.allow(length),
         None => false,
     }
 }
@@ -257,7 +282,7 @@ pub fn shape_of(code: u8, ps: &[u8]) -> Option<Shape>
     if ps.len() != 8 || !unused_zero(ps) {
         return None;
     }
-    let rule = rule_of(code)?;
+    let rule = FieldType::of_code(code)?.rule();
     let given = pair(ps[6], ps[7]);
     let size = rule.size_held(given);
     if !rule.allows(pair(ps[2], ps[3]), ps[5], size) {

@@ -6,7 +6,7 @@ pub returns-then-length-eq0 : goal.returns-then-length-eq0
 returns-then-length-eq0 c = search (replaces_nothing)
 
 pub returns-in-Some : goal.returns-in-Some
-returns-in-Some c = suits_rule _ _ _ _ c.pair-length.ensures.0 c.if-length-eq0.false _ _ c.in-Some.ensures (omega arith) c.allow.ensures
+returns-in-Some c = suits_rule _ _ _ _ c.pair-length.ensures.0 c.if-length-eq0.false _ _ _ c.in-Some.ensures c.rule.ensures (omega arith) c.allow.ensures
 
 pub returns-in-None : goal.returns-in-None
 returns-in-None c = search (suits_none, c.if-length-eq0.false, c.in-None.ensures)
