@@ -1,9 +1,9 @@
-// The numbers that bytes are: one byte, two, signed whole numbers of up to eight in two's complement, of either byte order (document 01,
-// "Field types", X'23' and X'24'), and packed decimals (document 02, Q-1). Also the smaller of two numbers.
+// The numbers that bytes are: two, signed whole numbers of up to eight in two's complement, of either byte order (document 01, "Field types",
+// X'23' and X'24'), and packed decimals (document 02, Q-1).
 
 #![tactic(auto)]
 
-ghost use Rattle.std.specs.Prelude.{◌≡◌, ◌+◌, ◌*◌, ◌/◌, ◌^◌, ◌≤◌, ◌<◌, min, [], ◌∷◌, length, get_or, take, drop};
+ghost use Rattle.std.specs.Prelude.{◌≡◌, ◌+◌, ◌*◌, ◌/◌, ◌^◌, ◌≤◌, ◌<◌, [], ◌∷◌, length, get_or, take, drop};
 ghost use Rattle.fdoca.specs.Basics.{big, lookup};
 ghost use Rattle.fdoca.specs.Packed.{half_bytes, signs, all_below, packed_number};
 ghost use Rattle.fdoca.specs.Calls.{ordered};
@@ -11,35 +11,11 @@ ghost use Rattle.fdoca.specs.Returned.{option_of};
 ghost use Rattle.numbers.specs.Whole.{twos, whole_up_to_8};
 ghost use Rattle.numbers.specs.Packed.{magnitude_of, signed_by};
 
-// The number that a byte is, as a place or a count.
-pub fn wide(a: u8) -> usize
-    ensures { (result ≡ a) × (result < 256) }
-{
-    a as usize
-}
-
-// The number that a byte is, as a part of a larger one.
-pub fn wide64(a: u8) -> u64
-    ensures { (result ≡ a) × (result < 256) }
-{
-    a as u64
-}
-
 // The number that two bytes are, most significant first.
 pub fn pair(a: u8, b: u8) -> usize
     ensures { (result ≡ big (a ∷ b ∷ [])) × (result < 65536) }
 {
     usize::from(u16::from_be_bytes([a, b]))
-}
-
-// The smaller of two numbers.
-pub fn least(a: usize, b: usize) -> usize
-    ensures { result ≡ min a b }
-{
-    if a < b {
-        return a;
-    }
-    b
 }
 
 // The byte at `i`, counted from the most significant one. By an index, since the bytes forwards and backwards would be iterators of two types.
