@@ -290,6 +290,6 @@ pub fn shape_of(code: u8, ps: &[u8]) -> Option<Shape>
     }
     Some(Shape {
         layout: rule.layout,
-        size: size,
+        size,
     })
 }
