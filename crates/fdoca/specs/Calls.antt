@@ -9,7 +9,6 @@ use Rattle.fdoca.specs.declared.State.{State}
 use Rattle.fdoca.specs.declared.Decimal.{Decimal}
 use Rattle.fdoca.specs.declared.Value.{Value}
 use Rattle.fdoca.specs.declared.Value.TheVariants.{Null, Whole, Real}
-use Rattle.fdoca.specs.declared.Valued.{Valued}
 use Rattle.fdoca.specs.Basics.{lookup, is_some, big, Result, refuse, ok, ◌>>=◌, ◌>>◌, reject, the}
 use Rattle.fdoca.specs.Returned.{returned}
 use Rattle.fdoca.specs.FieldType.{FieldType, fixed_bytes, variable_bytes, terminated_bytes, short_bytes, integer, reversed_integer, packed_decimal, hex_float, reversed_float, binary_float, Size, bytes, digits}
@@ -175,8 +174,3 @@ module _ {A : Type 0} where
   abbrev pub place_given : Result A → ℕ
   place_given (refuse n p) = p
   place_given (ok a) = 0
-
--- The answer of a call that still gives numbers.
-abbrev pub value_answer : Result Value → Valued
-value_answer (refuse n p) = record { number = n; place = p; value = Whole (pos 0) }
-value_answer (ok v) = record { number = 0; place = 0; value = v }

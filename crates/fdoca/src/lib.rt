@@ -4,7 +4,7 @@
 #![tactic(auto)]
 
 ghost use Rattle.std.specs.Prelude.{◌≡◌};
-ghost use Rattle.fdoca.specs.Returned.{number_of, reason_of};
+ghost use Rattle.fdoca.specs.Returned.{number_of};
 
 // The reasons of refusals, each as its number in the table of numbers.
 #[derive(Clone, Copy, Debug, PartialEq, Eq)]
@@ -44,38 +44,6 @@ impl Reason {
     }
 }
 
-// The reason of a number. Goes when no function gives a number any more.
-pub fn reason_by(number: u32) -> Reason
-    ensures { result ≡ reason_of number }
-{
-    match number {
-        1 => Reason::Oversize,
-        2 => Reason::TornTriplet,
-        3 => Reason::UnknownConstruct,
-        4 => Reason::OutOfSequence,
-        5 => Reason::BadLength,
-        6 => Reason::BadParameter,
-        7 => Reason::NameTaken,
-        8 => Reason::MissingReference,
-        9 => Reason::NotCarried,
-        10 => Reason::TooManyItems,
-        11 => Reason::NothingDescribed,
-        12 => Reason::SmallList,
-        13 => Reason::ShortData,
-        14 => Reason::BadCount,
-        15 => Reason::NoEnd,
-        16 => Reason::Surplus,
-        17 => Reason::NoSuchItem,
-        18 => Reason::WrongKind,
-        19 => Reason::BadFile,
-        20 => Reason::BadDigit,
-        21 => Reason::ColumnMisfit,
-        22 => Reason::Endless,
-        23 => Reason::NoExactFloat,
-        _ => Reason::BadIndicator,
-    }
-}
-
 // A refusal: its reason, and its place in the descriptor or the data.
 #[derive(Clone, Copy, Debug, PartialEq, Eq)]
 pub struct Refusal {
@@ -106,12 +74,4 @@ pub enum Value {
     Null,
     Whole(i64),
     Real(f64),
-}
-
-// An item's value; a refusal has the whole number 0. Goes when the value is read into a `Result`.
-#[derive(Drop)]
-pub struct Valued {
-    pub number: u32,
-    pub place: u32,
-    pub value: Value,
 }
