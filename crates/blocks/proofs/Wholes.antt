@@ -1,7 +1,8 @@
 -- The whole number that a found item's value is.
 -- Assumes nothing.
-use Rattle.std.specs.Prelude.{if◌then◌else◌}
+use Rattle.std.specs.Prelude.{if◌then◌else◌, None, Some, Ok, Err}
 use mathlib.Core.Path.{◌≡◌, refl, sym, ap, ◌∙◌}
+use mathlib.Core.Logic.{◌⊎◌, inl, inr}
 use Prim.Native.Nat.{ℕ, ◌+◌, ◌-◌, ◌/◌, ◌%◌, ◌≤◌, ◌<◌}
 use native.Mathlib.Omega.{arith}
 use native.Mathlib.Nat.{add-sub_cancel_left}
@@ -15,22 +16,20 @@ use mir.Syntax.{w64}
 use mir.Val.{SFits, to_z, of_z}
 use mir.ValLaws.{to_z-of_z}
 use borrow.Author.Tests.{eqb-true, eqb-false}
-use Rattle.fdoca.specs.declared.Whole.{Whole}
-use Rattle.fdoca.specs.Basics.{Result, refuse, ok, ◌>>=◌, the}
+use Rattle.fdoca.specs.declared.Reason.TheVariants.{WrongKind}
+use Rattle.fdoca.specs.declared.Refusal.{Refusal}
+use Rattle.fdoca.specs.Returned.{reason_of, returned}
+use Rattle.fdoca.specs.Basics.{refuse, ok, ◌>>=◌, the}
 use Rattle.fdoca.specs.FieldType.{FieldType, fixed_bytes, variable_bytes, terminated_bytes, short_bytes, integer, reversed_integer, packed_decimal, hex_float, reversed_float, binary_float, Size, in_bytes, fixed, one_of, plain, allows, rule_of}
-use Rattle.fdoca.specs.Walk.{Note}
+use Rattle.fdoca.proofs.Returned.{passed_on}
 use Rattle.fdoca.specs.Calls.{item_at, value_of, whole_of, whole_number, whole_answer}
 use Rattle.fdoca.proofs.TypeRows.{plain_code, same_plain}
 use Rattle.fdoca.proofs.ValueRows.{sized, one_below}
 use Rattle.numbers.specs.Whole.{whole_up_to_8}
 use Rattle.numbers.proofs.Whole.{read_integer, read_reversed}
 use Rattle.walks.specs.declared.Found.{Found}
-use Rattle.walks.specs.Finding.{found_of}
-use Rattle.lookups.specs.Answer.{FoundAs}
+use Rattle.lookups.specs.Answer.{ItemAs}
 use Rattle.blocks.proofs.Items.{TheItem, the_item, plain_is}
-
-abbrev wholly : ℤ → Whole
-wholly z = record { number = 0; place = 0; null = false; value = z }
 
 -- the field lengths of whole numbers
 eight : (z : Size) → allows (one_of (2 ∷ 4 ∷ 8 ∷ [])) z ≡ true → in_bytes z ≤ 8
@@ -66,54 +65,51 @@ whole_code T F bs l h a n = go (eqb (plain_code T) 0x24) refl
         let q : T ≡ integer = same_plain T integer c in
         rw q (read_integer bs (short (rw q at a) (rw q)))
 
-module _ (d x : List ℕ) (i : ℕ) (f : Found) (w : FoundAs (item_at d x i) x f) where
-  pub whole_refused : (f.number ≡ 0 → ⊥) → record { number = f.number; place = f.place; null = false; value = pos 0 } ≡ whole_answer (whole_number d x i)
-  unfolding whole_number found_of
-  whole_refused h = go (item_at d x i) w.found
-    where
-      go : (r : Result Note) → f ≡ found_of r
-          → record { number = f.number; place = f.place; null = false; value = pos 0 } ≡ whole_answer (r >>= (λ n. the (whole_of n.field.type (value_of x n)) 18 n.start >>= (λ z. ok (n.is_null, if n.is_null then pos 0 else z))))
-      go (refuse n p) e = rw e
-      go (ok n) e = absurd (h (rw e))
+-- a code that is one of the two
+pub one_of_both : (c : ℕ) → ((c ≡ 0x23 → ⊥) × (c ≡ 0x24)) ⊎ (c ≡ 0x23) → (0x23 ≤ c) × (c ≤ 0x24)
+one_of_both c (inl h) = omega (arith, h.1)
+one_of_both c (inr h) = omega arith
 
-  module _ (h : f.number ≡ 0) (c : ℕ) (ec : c ≡ plain (f.entry / 16777216 % 256)) where
-    abbrev t : TheItem d x i f
-    t = the_item d x i f w h
+-- an item that is not found
+pub whole_refused : (d x : List ℕ) (i : ℕ) (e : Refusal) → Err e ≡ returned (item_at d x i) → Err e ≡ whole_answer (whole_number d x i)
+unfolding whole_number
+whole_refused d x i e h = passed_on (item_at d x i >>= (λ n. the (whole_of n.field.type (value_of x n)) 18 n.start >>= (λ z. ok (n.is_null, if n.is_null then pos 0 else z)))) _ (passed_on (item_at d x i) _ h)
 
-    type_code_lem : c ≡ plain_code t.note.field.type
-    type_code_lem = plain_is d x i f w h c ec
+module _ (d x : List ℕ) (i : ℕ) (f : Found) (w : ItemAs (item_at d x i) x f) (c : ℕ) (ec : c ≡ plain (f.entry / 16777216 % 256)) where
+  abbrev t : TheItem d x i f
+  t = the_item d x i f w
 
-    other : (r : Whole) → (c ≡ 0x23 → ⊥) → (c ≡ 0x24 → ⊥) → r ≡ whole_answer (refuse 18 f.start) → r ≡ whole_answer (whole_number d x i)
+  type_code_lem : c ≡ plain_code t.note.field.type
+  type_code_lem = plain_is d x i f w c ec
+
+  no_number : (c ≡ 0x23 → ⊥) → (c ≡ 0x24 → ⊥) → whole_number d x i ≡ refuse 18 t.note.start
+  unfolding whole_number
+  no_number m n =
+      let q = not_whole t.note.field.type (value_of x t.note) (λ y. m (type_code_lem ∙ y)) (λ y. n (type_code_lem ∙ y)) in
+      rw (t.is_item, q)
+
+  pub whole_other : (e : Refusal) → (c ≡ 0x23 → ⊥) → (c ≡ 0x24 → ⊥) → e ≡ record { reason = WrongKind; place = f.start } → Err e ≡ whole_answer (whole_number d x i)
+  unfolding reason_of
+  whole_other e m n q = rw (q, t.start_is, no_number m n)
+
+  module _ (least : 0x23 ≤ c) (most : c ≤ 0x24) where
+    is_whole : whole_of t.note.field.type (value_of x t.note) ≡ some (whole_up_to_8 (value_of x t.note) (eqb c 0x24))
+    is_whole =
+        rw type_code_lem
+        (whole_code t.note.field.type t.note.field.size (value_of x t.note) (rw type_code_lem at least) (rw type_code_lem at most) t.good.field_good.allowed
+        (λ q. omega (arith, (t.good.filled q).0, length-take t.note.value (drop (t.note.start + t.note.lead) x))))
+
+    pub whole_null : f.null ≡ true → Ok None ≡ whole_answer (whole_number d x i)
     unfolding whole_number
-    other r m n e =
-        let q = not_whole t.note.field.type (value_of x t.note) (λ y. m (type_code_lem ∙ y)) (λ y. n (type_code_lem ∙ y)) in
-        let k : whole_answer (refuse 18 t.note.start) ≡ whole_answer (whole_number d x i) = rw (t.is_item, q) in
-        e ∙ ap (λ p. whole_answer (refuse 18 p)) t.start_is ∙ k
+    whole_null q = let k : t.note.is_null ≡ true = sym t.null_is ∙ q in rw (t.is_item, is_whole, k)
 
-    pub whole_low : (r : Whole) → c < 0x23 → r ≡ whole_answer (refuse 18 f.start) → r ≡ whole_answer (whole_number d x i)
-    whole_low r l = other r (λ q. omega arith) (λ q. omega arith)
-
-    pub whole_high : (r : Whole) → 0x24 < c → r ≡ whole_answer (refuse 18 f.start) → r ≡ whole_answer (whole_number d x i)
-    whole_high r l = other r (λ q. omega arith) (λ q. omega arith)
-
-    module _ (least : 0x23 ≤ c) (most : c ≤ 0x24) where
-      is_whole : whole_of t.note.field.type (value_of x t.note) ≡ some (whole_up_to_8 (value_of x t.note) (eqb c 0x24))
-      is_whole =
-          rw type_code_lem
-          (whole_code t.note.field.type t.note.field.size (value_of x t.note) (rw type_code_lem at least) (rw type_code_lem at most) t.good.field_good.allowed
-          (λ q. omega (arith, (t.good.filled q).0, length-take t.note.value (drop (t.note.start + t.note.lead) x))))
-
-      pub whole_null : f.null ≡ true → record { number = 0; place = 0; null = true; value = pos 0 } ≡ whole_answer (whole_number d x i)
-      unfolding whole_number
-      whole_null q = let k : t.note.is_null ≡ true = sym t.null_is ∙ q in rw (t.is_item, is_whole, k)
-
-      pub whole_read : (z : ℤ) → f.null ≡ false → SFits w64 z
-          → z ≡ whole_up_to_8 (take (f.start + f.lead + f.value - (f.start + f.lead)) (drop (f.start + f.lead) x)) (eqb c 0x24)
-          → record { number = 0; place = 0; null = false; value = to_z w64 (of_z w64 z) } ≡ whole_answer (whole_number d x i)
-      unfolding whole_number
-      whole_read z q s e =
-          let k : t.note.is_null ≡ false = sym t.null_is ∙ q in
-          let v : take (f.start + f.lead + f.value - (f.start + f.lead)) (drop (f.start + f.lead) x) ≡ value_of x t.note =
-          ap (λ n. take n (drop (f.start + f.lead) x)) (add-sub_cancel_left (f.start + f.lead) f.value) ∙ t.value_is in
-          let m : z ≡ whole_up_to_8 (value_of x t.note) (eqb c 0x24) = e ∙ ap (λ l. whole_up_to_8 l (eqb c 0x24)) v in
-          rw (to_z-of_z w64 z s, t.is_item, is_whole, k) (ap wholly m)
+    pub whole_read : (z : ℤ) → f.null ≡ false → SFits w64 z
+        → z ≡ whole_up_to_8 (take (f.start + f.lead + f.value - (f.start + f.lead)) (drop (f.start + f.lead) x)) (eqb c 0x24)
+        → Ok (Some (to_z w64 (of_z w64 z))) ≡ whole_answer (whole_number d x i)
+    unfolding whole_number
+    whole_read z q s e =
+        let k : t.note.is_null ≡ false = sym t.null_is ∙ q in
+        let v : take (f.start + f.lead + f.value - (f.start + f.lead)) (drop (f.start + f.lead) x) ≡ value_of x t.note =
+        ap (λ n. take n (drop (f.start + f.lead) x)) (add-sub_cancel_left (f.start + f.lead) f.value) ∙ t.value_is in
+        let m : z ≡ whole_up_to_8 (value_of x t.note) (eqb c 0x24) = e ∙ ap (λ l. whole_up_to_8 l (eqb c 0x24)) v in
+        rw (to_z-of_z w64 z s, t.is_item, is_whole, k, m)
