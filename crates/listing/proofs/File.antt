@@ -2,6 +2,7 @@
 -- Assumes nothing.
 use Rattle.std.specs.Prelude.{if◌then◌else◌}
 use mathlib.Core.Path.{◌≡◌, refl, sym, ap, ◌∙◌}
+use mathlib.Core.Logic.{◌⊎◌, inl, inr}
 use Prim.Native.Nat.{ℕ, ◌+◌, ◌-◌, ◌*◌, ◌<◌, ◌≤◌}
 use native.Mathlib.Omega.{arith}
 use mathlib.Core.Bool.{Bool, true, false, ◌||◌, not, or-true}
@@ -49,14 +50,18 @@ module _ (f t t' : List ℕ) (r : ℕ) where
   short_file h p l = dumped (refused_line 19 0) (rw (lt-ltb (length f) 8 h)) p (omega arith)
 
   module _ (a b : ℕ) (h : 8 ≤ length f) (ea : a ≡ big (take 4 f)) (eb : b ≡ big (take 4 (drop 4 f))) where
-    pub large_descriptor : 4096 < a → Put t t' 0 r (refused_line 1 0) → r ≤ 30 → Dumped
+    large_descriptor : 4096 < a → Put t t' 0 r (refused_line 1 0) → r ≤ 30 → Dumped
     unfolding dump
     large_descriptor m p l = dumped (refused_line 1 0) (rw (le-ltb (length f) 8 h, ← ea, lt-ltb 4096 a m)) p (omega arith)
 
-    pub large_data : 32768 < b → Put t t' 0 r (refused_line 1 0) → r ≤ 30 → Dumped
+    large_data : 32768 < b → Put t t' 0 r (refused_line 1 0) → r ≤ 30 → Dumped
     unfolding dump
     large_data m p l =
         dumped (refused_line 1 0) (rw (le-ltb (length f) 8 h, ← eb, lt-ltb 32768 b m, or-true (ltb 4096 (big (take 4 f))))) p (omega arith)
+
+    pub large_file : (4096 < a) ⊎ ((a ≤ 4096) × (32768 < b)) → Put t t' 0 r (refused_line 1 0) → r ≤ 30 → Dumped
+    large_file (inl m) p l = large_descriptor m p l
+    large_file (inr m) p l = large_data m.1 p l
 
     module _ (sa : a ≤ 4096) (sb : b ≤ 32768) where
       pub other_length : (length f ≡ 8 + a + b → ⊥) → Put t t' 0 r (refused_line 19 0) → r ≤ 30 → Dumped

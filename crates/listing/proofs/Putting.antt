@@ -1,14 +1,16 @@
 -- Bytes put into a text one run behind the other, and the ways through the functions that put them.
 -- Assumes nothing.
-use mathlib.Core.Path.{◌≡◌, ap, ◌∙◌}
-use Prim.Native.Nat.{ℕ, ◌+◌, ◌/◌, ◌%◌, ◌<◌, ◌≤◌}
+use mathlib.Core.Path.{◌≡◌, refl, sym, ap, ◌∙◌}
+use Prim.Native.Nat.{ℕ, ◌+◌, ◌-◌, ◌/◌, ◌%◌, ◌<◌, ◌≤◌}
 use native.Mathlib.Omega.{arith}
-use mathlib.Core.List.{List, [], ◌∷◌, ◌++◌}
-use lib.ListN.{length, length-append}
-use lib.Seq.{sets, length-sets}
+use mathlib.Core.List.{List, [], ◌∷◌, ◌++◌, append_assoc}
+use lib.ListN.{take, drop, length, length-append}
+use lib.Seq.{sets, sets-eq, length-sets}
+use Rattle.std.proofs.lemmas.List.Edits.{paste_all}
+use Rattle.std.proofs.lemmas.Slice.{put_mid-paste}
+use borrow.Rule.Slice.PartMut.{put_mid}
 use Rattle.fdoca.specs.Dump.{decimal}
 use Rattle.plans.proofs.Lists.{sets_append}
-use Rattle.plans.proofs.Stores.{Stored, all_stored}
 use Rattle.listing.specs.Put.{Put}
 use Rattle.listing.proofs.Decimal.{one_digit, more_digits, more_long, few_digits}
 
@@ -26,8 +28,17 @@ both {t} {u} {v} {xs} {ys} {at} {m} {r} p q =
 
 -- ---- `put_word`
 
-pub word_put : (t t' word : List ℕ) (at k : ℕ) → Stored t t' word at k → length word ≤ k → Put t t' at (at + k) word
-word_put t t' word at k w h = record { text = all_stored t t' word at k w h; place = omega (arith, w.within) }
+pub word_put : (t t' v word : List ℕ) (at : ℕ) → at + length word ≤ length t → v ≡ word → t' ≡ put_mid at (at + length word - at) t v → Put t t' at (at + length word) word
+word_put t t' v word at h e q =
+    record {
+      text =
+          q
+          ∙ put_mid-paste at (at + length word - at) t v word (length word) (e ∙ refl) (omega arith) refl
+          ∙ paste_all t at word (length word) refl
+          ∙ sym (append_assoc (take at t) word (drop (at + length word) t))
+          ∙ sym (sets-eq word t at h);
+      place = refl;
+    }
 
 -- ---- `put_number`
 

@@ -5,16 +5,20 @@
 ghost use Rattle.std.specs.Prelude.{◌≡◌, ◌+◌, ◌≤◌, ◌<◌, [], ◌∷◌, ◌++◌, length, if◌then◌else◌};
 ghost use Rattle.std.proofs.lemmas.List.Edits.{sets};
 ghost use Rattle.fdoca.specs.Basics.{big};
+ghost use Rattle.fdoca.specs.Item.{item};
+ghost use Rattle.fdoca.specs.Returned.{number_of};
 ghost use Rattle.fdoca.specs.Walk.{walk_by};
 ghost use Rattle.fdoca.specs.Unfolding.{unfolded, repeated};
 ghost use Rattle.fdoca.specs.Dump.{decimal, null_word, refused_line, block_notes, dump};
 ghost use Rattle.descriptors.specs.Holds.{Ready};
 ghost use Rattle.cuts.specs.Cut.{Fitting};
 ghost use Rattle.listing.specs.Put.{Put, Told};
-ghost use Rattle.listing.specs.Lines.{first_line, entry_line, entry_lines, StartsIn};
+ghost use Rattle.listing.specs.Lines.{first_line, entry_line, entry_lines, EachMeasured};
 
 use descriptors::Examined;
+use fdoca::{Reason, Refusal};
 use numbers::pair;
+use tables::Tables;
 use terminated::Measured;
 
 // Where the parts of a marked plan's entry begin: type code and position.
@@ -26,11 +30,6 @@ const POSITION: u64 = 281474976710656;
 const MOST_DESCRIPTOR: usize = 4096;
 
 const MOST_DATA: usize = 32768;
-
-// The numbers of two refusals: a size over its limit, and a file that does not fit its sizes.
-const OVERSIZE: u32 = 1;
-
-const BAD_FILE: u32 = 19;
 
 const SPACE: u8 = b' ';
 
@@ -49,12 +48,9 @@ fn put_word(text: &mut [u8], at: usize, word: &[u8]) -> usize
     requires { at + length word.now ≤ length text.old }
     ensures { Put text.old text.new at result word.now }
 {
-    let mut k = 0;
-    while k < word.len() {
-        text[at + k] = word[k];
-        k += 1;
-    }
-    at + k
+    let end = at + word.len();
+    text[at..end].copy_from_slice(word);
+    end
 }
 
 // A number in decimal: its last digit stands behind the number of tens.
@@ -79,13 +75,21 @@ fn put_field(text: &mut [u8], at: usize, n: u32, end: u8) -> usize
 }
 
 // The line of a refusal.
-fn put_refusal(text: &mut [u8], number: u32, place: u32) -> usize
+fn put_refusal(text: &mut [u8], refusal: Refusal) -> usize
     requires { 30 ≤ length text.old }
-    ensures { Put text.old text.new 0 result (refused_line number place) × (result ≤ 30) }
+    ensures { Put text.old text.new 0 result (refused_line (number_of refusal.reason) refusal.place) × (result ≤ 30) }
 {
     let at = put_word(text, 0, b"refused ");
-    let at = put_field(text, at, number, SPACE);
-    put_field(text, at, place, NEWLINE)
+    let at = put_field(text, at, refusal.reason.number(), SPACE);
+    put_field(text, at, refusal.place, NEWLINE)
+}
+
+// The line of a refusal that has no place of its own.
+fn put_reason(text: &mut [u8], reason: Reason) -> usize
+    requires { 30 ≤ length text.old }
+    ensures { Put text.old text.new 0 result (refused_line (number_of reason) 0) × (result ≤ 30) }
+{
+    put_refusal(text, Refusal { reason, place: 0 })
 }
 
 // The first line of a good block.
@@ -113,7 +117,7 @@ fn put_value(text: &mut [u8], at: usize, null: bool, value: usize) -> usize
 // The line of item k.
 fn put_item(text: &mut [u8], at: usize, k: usize, entry: u64, m: Measured) -> usize
     requires { (k < 4096) × (m.value ≤ 32768) × (at + 44 ≤ length text.old) }
-    ensures { Put text.old text.new at result (entry_line k entry m) }
+    ensures { Put text.old text.new at result (entry_line k entry (item m.null m.lead m.value m.spare)) }
 {
     let at = put_field(text, at, k as u32, SPACE);
     let at = put_field(text, at, (entry / POSITION) as u32, SPACE);
@@ -123,16 +127,13 @@ fn put_item(text: &mut [u8], at: usize, k: usize, entry: u64, m: Measured) -> us
 
 // The lines of all items, by a marked plan. An item is measured again where its entry says that it starts.
 fn put_items(text: &mut [u8], first: usize, plan: &[u64], data: &[u8]) -> usize
-    requires { StartsIn plan.now «data».now × (length plan.now ≤ 4096) × (length «data».now ≤ 32768) × (first ≤ 34) × (90112 ≤ length text.old) }
+    requires { EachMeasured plan.now «data».now × (length plan.now ≤ 4096) × (length «data».now ≤ 32768) × (first ≤ 34) × (90112 ≤ length text.old) }
     ensures { Put text.old text.new first result (entry_lines 0 plan.now «data».now) × (result ≤ 90112) }
 {
     let mut at = first;
-    let mut k = 0;
-    while k < plan.len() {
-        let entry = plan[k];
-        let m = walks::item_at(entry, data, (entry / POSITION) as usize);
-        at = put_item(text, at, k, entry, m);
-        k += 1;
+    for (k, entry) in plan.iter().enumerate() {
+        let m = walks::item_at(*entry, data, (*entry / POSITION) as usize).unwrap();
+        at = put_item(text, at, k, *entry, m);
     }
     at
 }
@@ -140,25 +141,24 @@ fn put_items(text: &mut [u8], first: usize, plan: &[u64], data: &[u8]) -> usize
 // The text of the data of an accepted descriptor, with a plan that has room.
 fn write_by(
     desc: &[u8],
-    starts: &[u16; 256],
-    sizes: &[u32; 256],
-    entries: &[u64; 256],
+    tables: &Tables,
     x: Examined,
     plan: &mut [u64],
     data: &[u8],
     text: &mut [u8],
 ) -> usize
-    requires { Ready desc.now starts.now sizes.now entries.now x.id x.items x.rows × Fitting x plan.old × (length «data».now ≤ 32768)
+    requires { Ready desc.now tables.now.starts tables.now.sizes tables.now.entries x.id x.items x.rows × Fitting x plan.old × (length «data».now ≤ 32768)
         × (90112 ≤ length text.old) }
     ensures { Told text.old text.new result (length «data».now)
         (walk_by (unfolded desc.now) (repeated desc.now) «data».now) }
 {
-    let c = cuts::cut(desc, starts, sizes, entries, x, plan, data);
-    if c.number != 0 {
-        return put_refusal(text, c.number, c.place);
+    match cuts::cut(desc, tables, x, plan, data) {
+        Ok(count) => {
+            let first = put_first(text, count, data.len());
+            put_items(text, first, &plan[..count], data)
+        }
+        Err(refusal) => put_refusal(text, refusal),
     }
-    let first = put_first(text, c.count, data.len());
-    put_items(text, first, &plan[..c.count], data)
 }
 
 // The text of a descriptor and its data.
@@ -166,25 +166,15 @@ fn write_block(desc: &[u8], data: &[u8], text: &mut [u8]) -> usize
     requires { (length desc.now ≤ 4096) × (length «data».now ≤ 32768) × (90112 ≤ length text.old) }
     ensures { Told text.old text.new result (length «data».now) (block_notes desc.now «data».now) }
 {
-    let mut starts = [sdas::NOWHERE; 256];
-    let mut sizes = [0u32; 256];
-    let mut entries = [0u64; 256];
-    let x = descriptors::examine(desc, &mut starts, &mut sizes, &mut entries);
-    if x.number != 0 {
-        return put_refusal(text, x.number, x.place);
+    let mut tables = Tables::new();
+    match descriptors::examine(desc, &mut tables) {
+        Ok(x) => {
+            let mut plan = [0u64; 4096];
+            let n = cuts::entries(x);
+            write_by(desc, &tables, x, &mut plan[..n], data, text)
+        }
+        Err(refusal) => put_refusal(text, refusal),
     }
-    let mut plan = [0u64; 4096];
-    let n = cuts::entries(x);
-    write_by(
-        desc,
-        &starts,
-        &sizes,
-        &entries,
-        x,
-        &mut plan[..n],
-        data,
-        text,
-    )
 }
 
 // A size in the file's first bytes: four bytes, most significant first.
@@ -200,18 +190,15 @@ pub fn write_dump(file: &[u8], text: &mut [u8; 90112]) -> usize
     ensures { (result ≡ length (dump file.now)) × (text.new ≡ sets text.old 0 (dump file.now)) × (result ≤ 90112) }
 {
     if file.len() < 8 {
-        return put_refusal(text, BAD_FILE, 0);
+        return put_reason(text, Reason::BadFile);
     }
     let d = size_in(&file[..4]);
     let s = size_in(&file[4..8]);
-    if MOST_DESCRIPTOR < d {
-        return put_refusal(text, OVERSIZE, 0);
-    }
-    if MOST_DATA < s {
-        return put_refusal(text, OVERSIZE, 0);
+    if MOST_DESCRIPTOR < d || MOST_DATA < s {
+        return put_reason(text, Reason::Oversize);
     }
     if file.len() != 8 + d + s {
-        return put_refusal(text, BAD_FILE, 0);
+        return put_reason(text, Reason::BadFile);
     }
     let end = 8 + d;
     write_block(&file[8..end], &file[end..], text)

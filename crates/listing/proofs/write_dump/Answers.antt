@@ -1,6 +1,6 @@
 -- `listing::write_dump` meets its contract.
 -- Assumes nothing.
-use Rattle.listing.proofs.File.{first_four, all_said, short_file, large_descriptor, large_data, other_length, whole_file}
+use Rattle.listing.proofs.File.{first_four, all_said, short_file, large_file, other_length, whole_file}
 use Rattle.listing.proofs.write_dump.Goals as goal
 
 pub returns-then-file-lt8 : goal.returns-then-file-lt8
@@ -13,10 +13,7 @@ pub size_in-d-requires : goal.size_in-d-requires
 size_in-d-requires c = search first_four
 
 pub returns-then-d-gt-MOST_DESCRIPTOR : goal.returns-then-d-gt-MOST_DESCRIPTOR
-returns-then-d-gt-MOST_DESCRIPTOR c = all_said _ _ _ _ (search large_descriptor)
-
-pub returns-then-s-gt-MOST_DATA : goal.returns-then-s-gt-MOST_DATA
-returns-then-s-gt-MOST_DATA c = all_said _ _ _ _ (search large_data)
+returns-then-d-gt-MOST_DESCRIPTOR c = let e = c.then-d-gt-MOST_DESCRIPTOR.either in all_said _ _ _ _ (search large_file)
 
 pub returns-then-file-d : goal.returns-then-file-d
 returns-then-file-d c = all_said _ _ _ _ (search other_length)
