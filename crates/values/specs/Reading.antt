@@ -1,4 +1,4 @@
--- How the bytes of a value are read, by the plain type code, the length and the bias indicator of its field.
+-- How the bytes of a value are read.
 use Rattle.std.specs.Prelude.{ℕ, Bool, [], ◌∷◌, eqb, Option, Some, None, if◌then◌else◌}
 use Rattle.std.proofs.Math.Option.{none, some}
 use Rattle.std.proofs.Math.Option as defined_option

@@ -4,23 +4,14 @@
 
 ghost use Rattle.std.specs.Prelude.{◌≡◌, ◌≤◌, length};
 ghost use Rattle.fdoca.specs.Basics.{the};
-ghost use Rattle.fdoca.specs.Calls.{read_by};
+ghost use Rattle.fdoca.specs.Calls.{read_by, reading_by};
 ghost use Rattle.fdoca.specs.Returned.{returned};
+ghost use Rattle.field_types.specs.Types.{defined_type};
 ghost use Rattle.values.specs.Reading.{defined_reading, maybe_defined, reading_for, by_length, binary_by};
 
 use fdoca::{Reason, Refusal, Value};
+use field_types::FieldType;
 use floats::Format;
-
-// The plain type codes, bytes of the standard, of what is read: whole numbers, X'24' byte-reversed; hexadecimal floats; binary floats, X'47' byte-reversed.
-const INTEGER: u8 = 0x23;
-
-const REVERSED_INTEGER: u8 = 0x24;
-
-const HEXADECIMAL: u8 = 0x40;
-
-const REVERSED_FLOAT: u8 = 0x47;
-
-const FLOAT: u8 = 0x48;
 
 // How the bytes of a value are read, which may be reversed: as a whole number, or as a float of a format.
 #[derive(Clone, Copy, Debug, PartialEq, Eq)]
@@ -57,15 +48,15 @@ fn binary(size: u64, bias: u64, reversed: bool) -> Option<Reading>
 }
 
 impl Reading {
-    // How the value of a field is read, if it is, by its plain type code, its length and its bias indicator.
+    // How the value of a field is read, if it is, by its type, its length and its bias indicator.
     #[tactic(auto, unfolding(fdoca::specs::Calls::reading_by))]
-    pub fn of_field(plain: u8, size: u64, bias: u64) -> Option<Reading>
-        ensures { maybe_defined result ≡ reading_for plain size bias }
+    pub fn of_type(field_type: FieldType, size: u64, bias: u64) -> Option<Reading>
+        ensures { maybe_defined result ≡ reading_by (defined_type field_type) size bias }
     {
-        match plain {
-            INTEGER => Some(Reading::Whole { reversed: false }),
-            REVERSED_INTEGER => Some(Reading::Whole { reversed: true }),
-            HEXADECIMAL => {
+        match field_type {
+            FieldType::Integer => Some(Reading::Whole { reversed: false }),
+            FieldType::ReversedInteger => Some(Reading::Whole { reversed: true }),
+            FieldType::HexFloat => {
                 of_length(
                     size,
                     false,
@@ -73,10 +64,25 @@ impl Reading {
                     Format::LongHexadecimal,
                 )
             }
-            REVERSED_FLOAT => binary(size, bias, true),
-            FLOAT => binary(size, bias, false),
-            _ => None,
+            FieldType::ReversedFloat => binary(size, bias, true),
+            FieldType::BinaryFloat => binary(size, bias, false),
+            FieldType::FixedBytes
+            | FieldType::VariableBytes
+            | FieldType::TerminatedBytes
+            | FieldType::ShortBytes
+            | FieldType::PackedDecimal => None,
         }
+    }
+
+    // The same by a plain type code, for a caller that has only that.
+    #[tactic(auto, using(crate::proofs::Ways::reading_of_none, crate::proofs::Ways::reading_of_high))]
+    pub fn of_field(plain: u8, size: u64, bias: u64) -> Option<Reading>
+        ensures { maybe_defined result ≡ reading_for plain size bias }
+    {
+        if 128 <= plain {
+            return None;
+        }
+        Reading::of_type(FieldType::of_code(plain)?, size, bias)
     }
 
     // The value of the bytes; it is refused at the item's start where there is no exact float.
