@@ -59,7 +59,7 @@ fn list_by(
     Ok(())
 }
 
-// The list call on an accepted descriptor, with a plan in the smaller buffer that holds it.
+// The list call on an accepted descriptor, with a plan in the smaller buffer that holds it: two calls, as in lookups.
 fn list_planned(
     desc: &[u8],
     tables: &Tables,

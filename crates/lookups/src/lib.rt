@@ -44,7 +44,8 @@ fn find_by(
     Ok(walks::item_of(plan[k], data))
 }
 
-// One item of an accepted descriptor's block, with a plan in the smaller buffer that holds it.
+// One item of an accepted descriptor's block, with a plan in the smaller buffer that holds it. The call stands twice, once for each size: with the size as
+// a parameter the choice between two calls would stand here still.
 fn find_planned(
     desc: &[u8],
     tables: &Tables,
