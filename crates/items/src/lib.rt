@@ -77,7 +77,8 @@ fn counted_two(s: &[u8], mode: u8, f: usize) -> Result<Measured, Reason>
     ranged(2, l, body.len(), mode, f)
 }
 
-// An item without null indicator, or what follows one.
+// An item without null indicator, or what follows one. Inlined, like `measure`, since the walk is faster with all of it in its loop.
+#[inline(always)]
 #[tactic(auto, unfolding(fdoca::specs::Item::measure_value, field_types::specs::Layouts::layout_of))]
 fn value(s: &[u8], layout: Layout, mode: u8, f: usize) -> Result<Measured, Reason>
     ensures { measured result ≡ measure_value (layout_of layout) mode f s.now }
@@ -107,6 +108,7 @@ fn indicator(s: &[u8], nullable: bool) -> Result<Option<usize>, Reason>
 }
 
 // The item at the start of `s`.
+#[inline(always)]
 #[tactic(auto, using(crate::proofs::Ways::measured_ways))]
 pub fn measure(
     s: &[u8],

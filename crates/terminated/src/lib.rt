@@ -67,6 +67,7 @@ fn endless(s: &[u8]) -> Result<Measured, Reason>
 }
 
 // F above 0, mode 1: the item ends with the first zero byte, which stands among the first F + 1.
+#[inline(always)]
 #[tactic(auto, using(crate::proofs::Ways::ways))]
 fn bounded(s: &[u8], f: usize) -> Result<Measured, Reason>
     ensures { measured result ≡ measure_terminated (limited f) s.now }
@@ -81,6 +82,7 @@ fn bounded(s: &[u8], f: usize) -> Result<Measured, Reason>
 }
 
 // F above 0, mode 0: F + 1 bytes, of which one is zero.
+#[inline(always)]
 #[tactic(auto, using(crate::proofs::Ways::ways))]
 fn padded(s: &[u8], f: usize) -> Result<Measured, Reason>
     ensures { measured result ≡ measure_terminated (reserved f) s.now }
@@ -95,7 +97,8 @@ fn padded(s: &[u8], f: usize) -> Result<Measured, Reason>
     Ok(Measured::with_value(0, end, sent.len() - end))
 }
 
-// A value that ends before a zero byte.
+// A value that ends before a zero byte. Inlined, like the two above, since the walk is faster with all of it in its loop.
+#[inline(always)]
 #[tactic(auto, unfolding(fdoca::specs::Item::space))]
 pub fn terminated_value(s: &[u8], mode: u8, f: usize) -> Result<Measured, Reason>
     ensures { measured result ≡ measure_terminated (space mode f) s.now }

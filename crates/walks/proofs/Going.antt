@@ -167,6 +167,10 @@ pub lies_inside : (e : ℕ) (s : List ℕ) (at : ℕ) (m : Measured) → at ≤ 
 unfolding measure_entry
 lies_inside e s at m l h = inside_at m.null m.lead m.value m.spare _ _ _ _ s at l h
 
+inside_of : (e : ℕ) (s : List ℕ) (at : ℕ) → at ≤ length s → (r : code.Result Measured Reason) → measured r ≡ measure_entry e (drop at s) → IfOk r (Inside s at)
+inside_of e s at k (Err x) h = tt
+inside_of e s at k (Ok m) h = lies_inside e s at m k h
+
 -- and from the part of the data that starts with it
 module _ (e : ℕ) (s : List ℕ) (at : ℕ) (l : Layout) (q : l ≡ numbered (e / 1099511627776 % 4)) (r : code.Result Measured Reason)
     (h : measured r ≡ measure_item (nullable (e / 16777216 % 256)) (layout_of l) (e / 4294967296 % 128) (e % 65536) (take (length s - at) (drop at s))) where
@@ -175,10 +179,6 @@ module _ (e : ℕ) (s : List ℕ) (at : ℕ) (l : Layout) (q : l ≡ numbered (e
   place_measured = rw (q, part_to_end s at) at h
 
   pub place_inside : at ≤ length s → IfOk r (Inside s at)
-  place_inside k = go r place_measured
-    where
-      go : (r : code.Result Measured Reason) → measured r ≡ measure_entry e (drop at s) → IfOk r (Inside s at)
-      go (Err x) h = tt
-      go (Ok m) h = lies_inside e s at m k h
+  place_inside k = inside_of e s at k r place_measured
 
 pub ruleset place_ways = (place_measured, place_inside)

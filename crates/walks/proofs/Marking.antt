@@ -17,37 +17,26 @@ use Rattle.fdoca.specs.Returned.{number_of}
 use Rattle.fdoca.specs.Walk.{Note, walk}
 use Rattle.terminated.specs.declared.Measured.{Measured}
 use Rattle.fields.specs.Plan.{Planned}
-use Rattle.walks.specs.declared.Reached.{Reached}
-use Rattle.walks.specs.Entry.{measure_entry, length_of, step_of, StepOver}
-use Rattle.walks.specs.Marks.{mark_of, last_of, MarkedPart, Marked}
+use Rattle.walks.specs.Entry.{measure_entry, length_of, StepOver}
+use Rattle.walks.specs.Marks.{mark_of, MarkedPart, Marked}
 use Rattle.walks.proofs.Parts.{entry_part}
-use Rattle.walks.proofs.Steps.{stepped_long}
 use Rattle.walks.proofs.Going.{Going, set_out, note_at, Noting, stops, stops_marking, goes_on, all_cut, all_marked}
 
-last_snoc : (ns : List Note) (n : Note) → last_of (ns ++ n ∷ []) ≡ step_of (record { null = n.is_null; lead = n.lead; value = n.value; spare = n.spare })
-unfolding last_of
-last_snoc [] n = refl
-last_snoc (x ∷ []) n = refl
-last_snoc (x ∷ y ∷ ns) n = last_snoc (y ∷ ns) n
-
--- es was the part of a plan that is walked over from o on, now it is es'; k entries are marked, the last of them for the item `last`, and the walk goes
--- on at p
-pub record MarkingFor (o : ℕ) (es s es' : List ℕ) (p k last : ℕ) (fs : List Field) : Type 0 where
+-- es was the part of a plan that is walked over from o on, now it is es'; k entries are marked, and the walk goes on at p
+pub record MarkingFor (o : ℕ) (es s es' : List ℕ) (p k : ℕ) (fs : List Field) : Type 0 where
   pub notes : List Note
   pub going : Going o fs s (drop k es) p notes
   pub count : length notes ≡ k
   pub plan_is : es' ≡ map mark_of notes ++ drop k es
-  pub last_is : last ≡ last_of notes
 
-pub record Marking (o : ℕ) (es s es' : List ℕ) (p k last : ℕ) : Type 0 where
-  pub each : (fs : List Field) → Planned es fs → MarkingFor o es s es' p k last fs
+pub record Marking (o : ℕ) (es s es' : List ℕ) (p k : ℕ) : Type 0 where
+  pub each : (fs : List Field) → Planned es fs → MarkingFor o es s es' p k fs
 
-pub mark_start : (o : ℕ) (es s : List ℕ) → Marking o es s es o 0 0
-unfolding last_of
-mark_start o es s = record { each = λ fs h. record { notes = []; going = set_out o fs s es h; count = refl; plan_is = refl; last_is = refl } }
+pub mark_start : (o : ℕ) (es s : List ℕ) → Marking o es s es o 0
+mark_start o es s = record { each = λ fs h. record { notes = []; going = set_out o fs s es h; count = refl; plan_is = refl } }
 
 -- the entry at k as it was, and then the entries behind it
-module _ {o : ℕ} {es s es' : List ℕ} {p k last : ℕ} {fs : List Field} (w : MarkingFor o es s es' p k last fs) (i : k < length es) where
+module _ {o : ℕ} {es s es' : List ℕ} {p k : ℕ} {fs : List Field} (w : MarkingFor o es s es' p k fs) (i : k < length es) where
   apart : es' ≡ map mark_of w.notes ++ get_or es k 0 ∷ drop (suc k) es
   apart = w.plan_is ∙ ap (λ l. map mark_of w.notes ++ l) (drop-cons es k 0 i)
 
@@ -60,9 +49,9 @@ module _ {o : ℕ} {es s es' : List ℕ} {p k last : ℕ} {fs : List Field} (w :
   at_entry : Going o fs s (get_or es k 0 ∷ drop (suc k) es) p w.notes
   at_entry = rw (drop-cons es k 0 i) at w.going
 
-module _ (o : ℕ) (es s es' : List ℕ) (p k last : ℕ) (i : k < length es') (l : length es' ≡ length es) (w : Marking o es s es' p k last) where
+module _ (o : ℕ) (es s es' : List ℕ) (p k : ℕ) (i : k < length es') (l : length es' ≡ length es) (w : Marking o es s es' p k) where
   module _ (fs : List Field) (f : Planned es fs) where
-    now : MarkingFor o es s es' p k last fs
+    now : MarkingFor o es s es' p k fs
     now = w.each fs f
 
     inside : k < length es
@@ -72,7 +61,7 @@ module _ (o : ℕ) (es s es' : List ℕ) (p k last : ℕ) (i : k < length es') (
     there = ap (λ e. measure_entry e (drop p s)) (same_entry now inside)
 
     more : (m : Measured) → item m.null m.lead m.value m.spare ≡ measure_entry (get_or es' k 0) (drop p s)
-        → MarkingFor o es s (set es' k (get_or es' k 0 % 281474976710656 + p * 281474976710656)) (p + length_of m) (suc k) (step_of m) fs
+        → MarkingFor o es s (set es' k (get_or es' k 0 % 281474976710656 + p * 281474976710656)) (p + length_of m) (suc k) fs
     unfolding mark_of
     more m h =
         let n : Noting (at_entry now inside) m = goes_on (at_entry now inside) m (h ∙ there) in
@@ -88,7 +77,6 @@ module _ (o : ℕ) (es s es' : List ℕ) (p k last : ℕ) (i : k < length es') (
               ∙ ap (λ y. map mark_of now.notes ++ y ∷ drop (suc k) es) v
               ∙ sym (append_snoc (map mark_of now.notes) (mark_of x) (drop (suc k) es))
               ∙ ap (λ l. l ++ drop (suc k) es) (sym (map-append mark_of now.notes (x ∷ [])));
-          last_is = sym (last_snoc now.notes x);
         }
 
     pub mark_stop : (r : Reason) → refused (number_of r) ≡ measure_entry (get_or es' k 0) (drop p s) → MarkedPart (Err (record { reason = r; place = p })) o es' fs s
@@ -98,12 +86,11 @@ module _ (o : ℕ) (es s es' : List ℕ) (p k last : ℕ) (i : k < length es') (
           answered = stops (at_entry now inside) (number_of r) (h ∙ there);
         }
 
-  pub mark_more : (step : ℕ) → length s ≤ 32768 → StepOver (get_or es' k 0) s p step
-      → Marking o es s (set es' k (get_or es' k 0 % 281474976710656 + p * 281474976710656)) (p + step % 65536) (k + 1) step
-  mark_more step small t =
-      rw (add-one, stepped_long (get_or es' k 0) s p step small t) (record { each = λ fs f. rw t.step (more fs f t.over t.measured) })
+  pub mark_more : (step : ℕ) → StepOver (get_or es' k 0) s p step
+      → Marking o es s (set es' k (get_or es' k 0 % 281474976710656 + p * 281474976710656)) (p + step) (k + 1)
+  mark_more step t = rw (add-one, t.step) (record { each = λ fs f. more fs f t.over t.measured })
 
-module _ (o : ℕ) (es s es' : List ℕ) (p k last : ℕ) (i : length es' ≤ k) (l : length es' ≡ length es) (w : Marking o es s es' p k last) (fs : List Field) (f : Planned es fs) where
+module _ (o : ℕ) (es s es' : List ℕ) (p k : ℕ) (i : length es' ≤ k) (l : length es' ≡ length es) (w : Marking o es s es' p k) (fs : List Field) (f : Planned es fs) where
   none_left : drop k es ≡ []
   none_left = let h : length es ≤ k = omega arith in drop_of_length-le es h
 
@@ -114,11 +101,11 @@ module _ (o : ℕ) (es s es' : List ℕ) (p k last : ℕ) (i : length es' ≤ k)
   marked_through =
       (w.each fs f).plan_is ∙ ap (λ l. map mark_of (w.each fs f).notes ++ l) none_left ∙ append-nil (map mark_of (w.each fs f).notes)
 
-  pub mark_done : MarkedPart (Ok (record { at = p; last = last })) o es' fs s
+  pub mark_done : MarkedPart (Ok p) o es' fs s
   mark_done =
       record {
         marks = marked_through ∙ sym (all_marked all_through);
-        answered = record { notes = (w.each fs f).notes; cut = all_cut all_through; marked = marked_through; last_is = (w.each fs f).last_is };
+        answered = record { notes = (w.each fs f).notes; cut = all_cut all_through; marked = marked_through };
       }
 
 -- the walk over a whole plan from the data's beginning on
@@ -127,18 +114,18 @@ module _ (s es es' : List ℕ) (fs : List Field) (f : Planned es fs) where
   unfolding walk
   mark_stopped x each = let w = each fs f in record { answered = rw w.answered; marks = w.marks }
 
-  module _ (r : Reached) (each : (fs : List Field) → Planned es fs → MarkedPart (Ok r) 0 es' fs s) where
+  module _ (r : ℕ) (each : (fs : List Field) → Planned es fs → MarkedPart (Ok r) 0 es' fs s) where
     abbrev x : MarkedPart (Ok r) 0 es' fs s
     x = each fs f
 
-    pub mark_surplus : r.at < length s → Marked (Err (record { reason = Surplus; place = r.at })) es' fs s
+    pub mark_surplus : r < length s → Marked (Err (record { reason = Surplus; place = r })) es' fs s
     unfolding walk
     mark_surplus h =
-        let k : 0 < length (drop r.at s) = omega (arith, length-drop r.at s) in
-        record { answered = rw (x.answered.cut, lt-ltb 0 (length (drop r.at s)) k); marks = x.marks }
+        let k : 0 < length (drop r s) = omega (arith, length-drop r s) in
+        record { answered = rw (x.answered.cut, lt-ltb 0 (length (drop r s)) k); marks = x.marks }
 
-    pub mark_ended : length s ≤ r.at → Marked (Ok tt) es' fs s
+    pub mark_ended : length s ≤ r → Marked (Ok tt) es' fs s
     unfolding walk
     mark_ended h =
-        let k : length (drop r.at s) ≤ 0 = omega (arith, length-drop r.at s) in
-        record { answered = rw (x.answered.cut, le-ltb 0 (length (drop r.at s)) k); marks = x.marks }
+        let k : length (drop r s) ≤ 0 = omega (arith, length-drop r s) in
+        record { answered = rw (x.answered.cut, le-ltb 0 (length (drop r s)) k); marks = x.marks }

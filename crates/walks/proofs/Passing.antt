@@ -19,7 +19,6 @@ use Rattle.fdoca.specs.Walk.{Note, item_length, Cut, note_of, cut_from, rows_fro
 use Rattle.fdoca.proofs.Tests.{by_order}
 use Rattle.fdoca.proofs.Rows.{rows_through, rows_short, rows_end, rows_begin}
 use Rattle.fields.specs.Plan.{entry_of, Planned, empty, entry}
-use Rattle.walks.specs.declared.Reached.{Reached}
 use Rattle.walks.specs.Marks.{mark_of, mark_or, marks_from, Through, MarkedPart}
 use Rattle.walks.specs.Finding.{IsPlan}
 use Rattle.walks.specs.Passes.{unmarked, Apart, wide, PassPlan, IsPassPlan, MarkedPasses}
@@ -331,18 +330,18 @@ module _ (es s es' xs : List ℕ) (before once o p k m e : ℕ) (w : Passing es 
               take_map (λ e. e % 281474976710656) (wide es before once) (drop before after) ∙ ap unmarked t
               ∙ sym (take_map (λ e. e % 281474976710656) (wide es before once) (drop before es')) ∙ (now rows f).pass_there
 
-      taken_on : (r : Reached) → Through r p ys fs s → once ≤ m → PassingFor es s after before once o r.at e rows
+      taken_on : (r : ℕ) → Through r p ys fs s → once ≤ m → PassingFor es s after before once o r e rows
       taken_on r t h =
           let old : List Note = (now rows f).notes in
           let n : length t.notes ≡ m = sym (length-map t.notes mark_of) ∙ ap length (sym t.marked) ∙ ys_size in
-          let x : rows_from (now rows f).room p rows rows (drop p s) ≡ then_on (record { notes = t.notes; end = r.at; rest = drop r.at s }) =
+          let x : rows_from (now rows f).room p rows rows (drop p s) ≡ then_on (record { notes = t.notes; end = r; rest = drop r s }) =
           full h ∙ ap (λ x. x >>= then_on) t.cut in
           record {
             notes = old ++ t.notes;
             room = less;
             counted = omega (arith, length-append old t.notes, (now rows f).counted, n);
             room_is = omega (arith, w.among, w.same_length);
-            whole = goes (then_on (record { notes = t.notes; end = r.at; rest = drop r.at s })) x ∙ both old t.notes (rows_from less r.at rows [] (drop r.at s));
+            whole = goes (then_on (record { notes = t.notes; end = r; rest = drop r s })) x ∙ both old t.notes (rows_from less r rows [] (drop r s));
             marks = ap (λ n. take n after) (e-is ∙ ap (λ x. x + m) (sym front_long)) ∙ take-append-add (take k xs) (ys ++ drop (e - k) (drop k xs)) m
                 ∙ ap (λ l. take k xs ++ l) (take_at ys (drop (e - k) (drop k xs)) m ys_size)
                 ∙ ap (λ l. l ++ ys) (front ∙ (now rows f).marks) ∙ ap (λ l. (take before es ++ map mark_of old) ++ l) t.marked
@@ -363,18 +362,18 @@ module _ (es s es' xs : List ℕ) (before once o p k m e : ℕ) (w : Passing es 
         answer_refused x es (rejoined ys) s before o rows (after_long more ys marked rows f)
         (goes more ys marked rows f (refuse (number_of x.reason) x.place) (refused_pass more ys marked rows f (number_of x.reason) x.place own.answered))
 
-    module _ (r : Reached) (part : (fs : List Field) → Planned (take (e - k) (drop k xs)) fs → MarkedPart (Ok r) p ys fs s) where
+    module _ (r : ℕ) (part : (fs : List Field) → Planned (take (e - k) (drop k xs)) fs → MarkedPart (Ok r) p ys fs s) where
       each_marked : (fs : List Field) → Planned (take (e - k) (drop k xs)) fs → ys ≡ marks_from p fs (drop p s)
       each_marked fs h = (part fs h).marks
 
       pub pass_full : m < once → (rows : List Field) → PassPlan es before once rows
-          → MarkedPasses (Err (record { reason = TooManyItems; place = r.at })) es (rejoined ys) before o rows s
+          → MarkedPasses (Err (record { reason = TooManyItems; place = r })) es (rejoined ys) before o rows s
       pass_full h rows f =
-          answer_refused (record { reason = TooManyItems; place = r.at }) es (rejoined ys) s before o rows (after_long more ys each_marked rows f)
-          (goes more ys each_marked rows f (refuse 10 r.at)
+          answer_refused (record { reason = TooManyItems; place = r }) es (rejoined ys) s before o rows (after_long more ys each_marked rows f)
+          (goes more ys each_marked rows f (refuse 10 r)
           (short more ys each_marked rows f h ∙ ap (λ x. x >>= λ c. refuse 10 c.end) (part (take m rows) (part_planned rows f)).answered.cut))
 
-      pub pass_more : IsPassPlan es before once → once ≤ m → r.at ≤ length s → Passing es s (rejoined ys) before once o r.at e
+      pub pass_more : IsPassPlan es before once → once ≤ m → r ≤ length s → Passing es s (rejoined ys) before once o r e
       pass_more x h l =
           record {
             among = omega (arith, w.among, w.same_length);

@@ -16,7 +16,6 @@ use Rattle.fdoca.specs.Walk.{Note, Cut, cut_from, rows_from}
 use Rattle.fdoca.proofs.Results.{ok_bind}
 use Rattle.fdoca.proofs.Rows.{rows_through}
 use Rattle.fields.specs.Plan.{entry_of, Planned}
-use Rattle.walks.specs.declared.Reached.{Reached}
 use Rattle.walks.specs.Marks.{mark_of, marks_from, Through, MarkedPart}
 use Rattle.walks.specs.Finding.{IsPlan}
 use Rattle.walks.specs.Passes.{unmarked, wide, PassPlan, IsPassPlan, MarkedPasses, RowPlan, IsRowPlan, MarkedRows}
@@ -99,11 +98,11 @@ module _ (es s : List ℕ) (before once : ℕ) where
             entries = rw (long, drop_at ys (drop before es) before ys_long) (pass_entries bs rows f);
           }
 
-      module _ (r : Reached) (own : Through r 0 ys bs s) (a : code.Result ℕ Refusal) (plan : List ℕ) where
+      module _ (r : ℕ) (own : Through r 0 ys bs s) (a : code.Result ℕ Refusal) (plan : List ℕ) where
         notes_long : length own.notes ≡ before
         notes_long = sym (length-map own.notes mark_of) ∙ ap length (sym own.marked) ∙ ys_long
 
-        whole : rows_from (length es) 0 rows bs s ≡ (rows_from (length es - before) r.at rows [] (drop r.at s) >>= λ ns. ok (own.notes ++ ns))
+        whole : rows_from (length es) 0 rows bs s ≡ (rows_from (length es - before) r rows [] (drop r s) >>= λ ns. ok (own.notes ++ ns))
         whole = through ∙ ap (λ x. x >>= onward) own.cut
 
         counted : (x : Result (List Note)) → (x >>= λ ns. ok (before + length ns)) ≡ ((x >>= λ ns. ok (own.notes ++ ns)) >>= λ ns. ok (length ns))
@@ -114,16 +113,16 @@ module _ (es s : List ℕ) (before once : ℕ) where
         fewer (Err x) h = tt
         fewer (Ok n) h = omega (arith, long)
 
-        joined : MarkedPasses a after plan before r.at rows s → MarkedRows a es plan bs rows s
+        joined : MarkedPasses a after plan before r rows s → MarkedRows a es plan bs rows s
         joined w =
             record {
-              answered = w.answered ∙ ap (λ n. rows_from (n - before) r.at rows [] (drop r.at s) >>= λ ns. ok (before + length ns)) long
-                  ∙ counted (rows_from (length es - before) r.at rows [] (drop r.at s)) ∙ ap (λ x. x >>= λ ns. ok (length ns)) (sym whole);
+              answered = w.answered ∙ ap (λ n. rows_from (n - before) r rows [] (drop r s) >>= λ ns. ok (before + length ns)) long
+                  ∙ counted (rows_from (length es - before) r rows [] (drop r s)) ∙ ap (λ x. x >>= λ ns. ok (length ns)) (sym whole);
               marks = λ all y.
-                  let (ns, e, q) = ok_bind (rows_from (length es - before) r.at rows [] (drop r.at s)) (λ ns. ok (own.notes ++ ns)) all (sym whole ∙ y) in
+                  let (ns, e, q) = ok_bind (rows_from (length es - before) r rows [] (drop r s)) (λ ns. ok (own.notes ++ ns)) all (sym whole ∙ y) in
                   let k : own.notes ++ ns ≡ all = cc in
                   let t : take (before + length ns) plan ≡ take before after ++ map mark_of ns =
-                  w.marks ns (ap (λ n. rows_from (n - before) r.at rows [] (drop r.at s)) long ∙ e) in
+                  w.marks ns (ap (λ n. rows_from (n - before) r rows [] (drop r s)) long ∙ e) in
                   rw (← k) (ap (λ n. take n plan) (length-append own.notes ns ∙ ap (λ n. n + length ns) notes_long) ∙ t
                   ∙ ap (λ l. l ++ map mark_of ns) (take_at ys (drop before es) before ys_long ∙ own.marked) ∙ sym (map-append mark_of own.notes ns));
               same_length = w.same_length ∙ long;
@@ -134,7 +133,7 @@ module _ (es s : List ℕ) (before once : ℕ) where
       → (bs rows : List Field) → RowPlan es before once bs rows → MarkedRows (Err x) es (ys ++ drop before es) bs rows s
   first_stop ys x part bs rows f = stopped ys (λ fs h. (part fs h).marks) bs rows f x (part bs (planned_before bs rows f)).answered
 
-  module _ (ys : List ℕ) (r : Reached) (part : (fs : List Field) → Planned (take before es) fs → MarkedPart (Ok r) 0 ys fs s) where
+  module _ (ys : List ℕ) (r : ℕ) (part : (fs : List Field) → Planned (take before es) fs → MarkedPart (Ok r) 0 ys fs s) where
     each_marked : (fs : List Field) → Planned (take before es) fs → ys ≡ marks_from 0 fs s
     each_marked fs h = (part fs h).marks
 
@@ -145,7 +144,7 @@ module _ (es s : List ℕ) (before once : ℕ) where
     after_fits x h = omega (arith, long ys each_marked x.fields_before x.rows x.row_plan)
 
     pub rows_marked : (a : code.Result ℕ Refusal) (plan : List ℕ)
-        → ((rows : List Field) → PassPlan (ys ++ drop before es) before once rows → MarkedPasses a (ys ++ drop before es) plan before r.at rows s)
+        → ((rows : List Field) → PassPlan (ys ++ drop before es) before once rows → MarkedPasses a (ys ++ drop before es) plan before r rows s)
         → (bs rows : List Field) → RowPlan es before once bs rows → MarkedRows a es plan bs rows s
     rows_marked a plan each bs rows f =
         joined ys each_marked bs rows f r (part bs (planned_before bs rows f)).answered a plan (each rows (pass_plan ys each_marked bs rows f))

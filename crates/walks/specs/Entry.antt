@@ -1,5 +1,5 @@
 -- The item that a plan's number says to measure, whatever its highest 16 bits hold, and the walk's step over it.
-use Rattle.std.specs.Prelude.{ℕ, ◌+◌, ◌*◌, ◌/◌, ◌%◌, ◌≤◌, ◌≡◌, Bool, not, ◌&&◌, List, eqb, length, drop, if◌then◌else◌, Result, Ok, Err}
+use Rattle.std.specs.Prelude.{ℕ, ◌+◌, ◌/◌, ◌%◌, ◌≤◌, ◌≡◌, Bool, not, ◌&&◌, List, eqb, length, drop, Result, Ok, Err}
 use Rattle.fdoca.specs.declared.Reason.{Reason}
 use Rattle.fdoca.specs.FieldType.{nullable}
 use Rattle.fdoca.specs.Item.{refused, item, measure_item}
@@ -23,15 +23,11 @@ length_of m = m.lead + m.value + m.spare
 abbrev pub Inside : (s : List ℕ) (at : ℕ) → Measured → Type 0
 Inside s at m = at + length_of m ≤ length s
 
--- An item as one number: its length, and from 2^17, 2^20 and 2^36 on its null mark, its lead and its spare.
-unfoldable pub step_of : Measured → ℕ
-step_of m = length_of m + (if m.null then 1 else 0) * 131072 + m.lead * 1048576 + m.spare * 68719476736
-
--- The number n is the item at a place of the data s.
+-- The item at a place of the data s has n bytes.
 pub record StepOver (e : ℕ) (s : List ℕ) (at n : ℕ) : Type 0 where
   pub over : Measured
   pub measured : item over.null over.lead over.value over.spare ≡ measure_entry e (drop at s)
-  pub step : n ≡ step_of over
+  pub step : n ≡ length_of over
   pub inside : Inside s at over
 
 -- The step at a place of the data s: over the item there, or the reason of its refusal.

@@ -7,8 +7,6 @@ use Rattle.fdoca.specs.Item.{Field, measure}
 use Rattle.fdoca.specs.Returned.{number_of, answer}
 use Rattle.fdoca.specs.Walk.{Note, item_length, note_of, cut_from, walk}
 use Rattle.fields.specs.Plan.{entry_of, Proper}
-use Rattle.walks.specs.declared.Reached.{Reached}
-use Rattle.walks.specs.Entry.{step_of}
 
 unfoldable pub mark_of : Note → ℕ
 mark_of n = entry_of n.field + 281474976710656 * n.start
@@ -24,26 +22,18 @@ marks_from p [] s = []
 marks_from p (f ∷ fs) s =
     mark_or (note_of f p (measure f s)) (λ n. marks_from (p + item_length n) fs (drop (item_length n) s)) (map entry_of (f ∷ fs))
 
--- The last of some noted items as one number, and 0 where there is none.
-unfoldable pub last_of : List Note → ℕ
-last_of [] = 0
-last_of (n ∷ []) = step_of (record { null = n.is_null; lead = n.lead; value = n.value; spare = n.spare })
-last_of (n ∷ m ∷ ns) = last_of (m ∷ ns)
-
--- What the walk over the fields fs from the place o of the data s on has reached, and the part of a plan that it leaves: the place behind the items, and
--- the last of them.
-pub record Through (r : Reached) (o : ℕ) (part : List ℕ) (fs : List Field) (s : List ℕ) : Type 0 where
+-- The walk over the fields fs from the place o of the data s on has come to the place `end` behind the items, and the part of a plan that it leaves.
+pub record Through (end o : ℕ) (part : List ℕ) (fs : List Field) (s : List ℕ) : Type 0 where
   pub notes : List Note
-  pub cut : cut_from o fs (drop o s) ≡ ok (record { notes = notes; end = r.at; rest = drop r.at s })
+  pub cut : cut_from o fs (drop o s) ≡ ok (record { notes = notes; end = end; rest = drop end s })
   pub marked : part ≡ map mark_of notes
-  pub last_is : r.last ≡ last_of notes
 
 -- That, or the refusal of an item.
-abbrev pub Answered : code.Result Reached Refusal → (o : ℕ) (part : List ℕ) → List Field → List ℕ → Type 0
+abbrev pub Answered : code.Result ℕ Refusal → (o : ℕ) (part : List ℕ) → List Field → List ℕ → Type 0
 Answered (Err x) o part fs s = cut_from o fs (drop o s) ≡ refuse (number_of x.reason) x.place
-Answered (Ok r) o part fs s = Through r o part fs s
+Answered (Ok end) o part fs s = Through end o part fs s
 
-pub record MarkedPart (r : code.Result Reached Refusal) (o : ℕ) (part : List ℕ) (fs : List Field) (s : List ℕ) : Type 0 where
+pub record MarkedPart (r : code.Result ℕ Refusal) (o : ℕ) (part : List ℕ) (fs : List Field) (s : List ℕ) : Type 0 where
   pub marks : part ≡ marks_from o fs (drop o s)
   pub answered : Answered r o part fs s
 

@@ -7,7 +7,7 @@ ghost use Rattle.std.proofs.Math.Seq.{paste};
 ghost use Rattle.fdoca.specs.Item.{Field};
 ghost use Rattle.terminated.specs.Answer.{measured};
 ghost use Rattle.fields.specs.Plan.{Planned};
-ghost use Rattle.walks.specs.Entry.{measure_entry, is_plain, step_of, Inside, Stepped};
+ghost use Rattle.walks.specs.Entry.{measure_entry, is_plain, length_of, Inside, Stepped};
 ghost use Rattle.walks.specs.Marks.{MarkedPart, Marked, list_by};
 ghost use Rattle.walks.specs.Finding.{IsPlan, IsMark, FoundBy};
 ghost use Rattle.walks.specs.Passes.{unmarked, Apart, PassPlan, IsPassPlan, MarkedPasses, RowPlan, IsRowPlan, MarkedRows};
@@ -39,14 +39,8 @@ const LAYOUT: u64 = 1099511627776;
 
 const POSITION: u64 = 281474976710656;
 
-// Where the parts of an item as one number begin, behind its length: null mark, lead, spare.
-const NULL: usize = 131072;
-
-const LEAD: usize = 1048576;
-
-const SPARE: usize = 68719476736;
-
-// The item at a place of the data, by its entry in the plan. It lies within the data.
+// The item at a place of the data, by its entry in the plan, marked or not. It lies within the data. Inlined, since the walk is faster with all of it in its loop.
+#[inline(always)]
 #[tactic(auto, using(crate::proofs::Going::place_ways))]
 pub fn item_at(entry: u64, data: &[u8], at: usize) -> Result<Measured, Reason>
     requires { at ≤ length «data».now }
@@ -68,18 +62,16 @@ fn plain(entry: u64) -> bool
     entry / CODE % 256 < 128 && entry / LAYOUT % 4 == 0
 }
 
-// An item as one number: its length, null mark, lead and spare.
-#[tactic(auto, unfolding(crate::specs::Entry::step_of))]
-fn step_of(item: Measured) -> usize
+// How many bytes an item has.
+fn length_of(item: Measured) -> usize
     requires { item.lead + item.value + item.spare ≤ 32768 }
-    ensures { result ≡ step_of item }
+    ensures { result ≡ length_of item }
 {
-    let length = item.lead + item.value + item.spare;
-    length + usize::from(item.null) * NULL + item.lead * LEAD + item.spare * SPARE
+    item.lead + item.value + item.spare
 }
 
-// The item at a place of the data as one number, since the walk is faster so than with a struct. One of F bytes without a null indicator needs no more than
-// that to be measured.
+// How many bytes the item at a place of the data has. One of F bytes without a null indicator needs no more than that to be measured; it is tested for first,
+// since the walk is faster so.
 #[tactic(auto, using(crate::proofs::Steps::step_ways))]
 fn step_at(entry: u64, data: &[u8], at: usize) -> Result<usize, Reason>
     requires { (at ≤ length «data».now) × (length «data».now ≤ 32768) }
@@ -87,30 +79,25 @@ fn step_at(entry: u64, data: &[u8], at: usize) -> Result<usize, Reason>
 {
     if plain(entry) {
         let f = (entry % ID) as usize;
-        return Ok(step_of(items::fixed_value(&data[at..], f)?));
+        return Ok(length_of(items::fixed_value(&data[at..], f)?));
     }
-    Ok(step_of(item_at(entry, data, at)?))
-}
-
-// Where the walk over a part of a plan has come to: the place behind its last item, and that item as one number.
-#[derive(Clone, Copy, Debug, PartialEq, Eq)]
-pub struct Reached {
-    pub at: usize,
-    pub last: usize,
+    Ok(length_of(item_at(entry, data, at)?))
 }
 
 // The walk over a part of a plan, from a place of the data on. The entry of an item gets its position in the highest 16 bits, up to the item that
-// stops the walk.
-fn mark_part(part: &mut [u64], data: &[u8], from: usize) -> Result<Reached, Refusal>
+// stops the walk. The place behind the items.
+fn mark_part(part: &mut [u64], data: &[u8], from: usize) -> Result<usize, Refusal>
     requires { IsPlan part.old × (from ≤ length «data».now) × (length «data».now ≤ 32768) }
     ensures marked_part { (fs : List Field) → Planned part.old fs → MarkedPart result from part.new fs «data».now }
-    ensures at_in_bounds { IfOk result (λ r. r.at ≤ length «data».now) }
+    ensures at_in_bounds { IfOk result (λ at. at ≤ length «data».now) }
 {
     let mut at = from;
-    let mut last = 0;
     for entry in part.iter_mut() {
         match step_at(*entry, data, at) {
-            Ok(step) => last = step,
+            Ok(step) => {
+                *entry = *entry % POSITION + at as u64 * POSITION;
+                at += step;
+            }
             Err(reason) => {
                 return Err(Refusal {
                     reason,
@@ -118,10 +105,8 @@ fn mark_part(part: &mut [u64], data: &[u8], from: usize) -> Result<Reached, Refu
                 });
             }
         }
-        *entry = *entry % POSITION + at as u64 * POSITION;
-        at += last % 65536;
     }
-    Ok(Reached { at, last })
+    Ok(at)
 }
 
 // The walk over the whole plan and the data.
@@ -129,7 +114,7 @@ pub fn mark(plan: &mut [u64], data: &[u8]) -> Result<(), Refusal>
     requires { IsPlan plan.old × (length «data».now ≤ 32768) }
     ensures { (fs : List Field) → Planned plan.old fs → Marked result plan.new fs «data».now }
 {
-    let end = mark_part(plan, data, 0)?.at;
+    let end = mark_part(plan, data, 0)?;
     if end < data.len() {
         return Err(Refusal {
             reason: Reason::Surplus,
@@ -169,14 +154,14 @@ fn mark_passes(
     while at < data.len() {
         let m = once.min(plan.len() - k);
         copy_pass(plan, before, k, m);
-        let reached = mark_part(&mut plan[k..k + m], data, at)?;
+        let end = mark_part(&mut plan[k..k + m], data, at)?;
         if m < once {
             return Err(Refusal {
                 reason: Reason::TooManyItems,
-                place: reached.at as u32,
+                place: end as u32,
             });
         }
-        at = reached.at;
+        at = end;
         k += m;
     }
     Ok(k)
@@ -194,8 +179,8 @@ pub fn mark_rows(
     ensures { (bs rows : List Field) → RowPlan plan.old before once bs rows
         → MarkedRows result plan.old plan.new bs rows «data».now }
 {
-    let first = mark_part(&mut plan[..before], data, 0)?;
-    mark_passes(plan, before, once, data, first.at)
+    let at = mark_part(&mut plan[..before], data, 0)?;
+    mark_passes(plan, before, once, data, at)
 }
 
 // The position in a marked entry.
@@ -220,25 +205,19 @@ pub fn write_list(plan: &[u64], size: usize, list: &mut [u32])
     }
 }
 
-// The item of a marked entry in a good block: the walk over that entry alone, from the item's position on, tells its parts.
+// The item of a marked entry in a good block.
 pub fn item_of(marked: u64, data: &[u8]) -> Found
     requires { IsMark «data».now marked × (length «data».now ≤ 32768) }
     ensures { FoundBy «data».now marked result }
 {
     let start = (marked / POSITION) as usize;
-    let entry = marked % POSITION;
-    let mut alone = [entry; 1];
-    let item = mark_part(&mut alone, data, start).unwrap().last;
-    let lead = item / LEAD % 65536;
-    let spare = item / SPARE % 65536;
-    let behind = item % 65536 - lead;
-    let value = behind - spare;
+    let item = item_at(marked, data, start).unwrap();
     Found {
         start,
-        null: 1 <= item / NULL % 2,
-        lead,
-        value,
-        spare,
-        entry,
+        null: item.null,
+        lead: item.lead,
+        value: item.value,
+        spare: item.spare,
+        entry: marked % POSITION,
     }
 }

@@ -10,10 +10,10 @@ pub loop-entry-init : goal.loop-entry-init
 loop-entry-init c = search (rules, mark_start)
 
 pub returns-in-Err-clause-marked_part : goal.returns-in-Err-clause-marked_part
-returns-in-Err-clause-marked_part c = λ fs f. rw set-get_or (mark_stop _ _ _ _ _ _ _ (omega arith) (omega arith) c.loop-entry.invariant.1 fs f _ c.in-Err.ensures)
+returns-in-Err-clause-marked_part c = λ fs f. rw set-get_or (mark_stop _ _ _ _ _ _ (omega arith) (omega arith) c.loop-entry.invariant.1 fs f _ c.in-Err.ensures)
 
 pub loop-entry-preserved : goal.loop-entry-preserved
 loop-entry-preserved c = (search (rules, step_inside), search (rules, mark_more))
 
 pub returns-clause-marked_part : goal.returns-clause-marked_part
-returns-clause-marked_part c = λ fs f. mark_done _ _ _ _ _ _ _ (omega arith) (omega arith) c.loop-entry.invariant.1 fs f
+returns-clause-marked_part c = λ fs f. mark_done _ _ _ _ _ _ (omega arith) (omega arith) c.loop-entry.invariant.1 fs f

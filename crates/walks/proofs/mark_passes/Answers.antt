@@ -11,20 +11,20 @@ loop-at-init c = search pass_start
 pub mark_part-requires : goal.mark_part-requires
 mark_part-requires c = search (rules, part_is_plan)
 
-pub returns-in_err-reached : goal.returns-in_err-reached
-returns-in_err-reached c = λ rows f.
+pub returns-in_err-end : goal.returns-in_err-end
+returns-in_err-end c = λ rows f.
     let p = err_from_is_err_and c.from_residual.result c.from_residual.ensures.1 in
     rw (p.1, p.2)
-    (pass_stop _ _ _ _ _ _ _ _ _ _ _ c.loop-at.invariant c.min-m.ensures c.copy_pass.ensures refl c.loop-at-test.true _ _ c.in_err-reached.ensures.marked_part rows f)
+    (pass_stop _ _ _ _ _ _ _ _ _ _ _ c.loop-at.invariant c.min-m.ensures c.copy_pass.ensures refl c.loop-at-test.true _ _ c.in_err-end.ensures.marked_part rows f)
 
 pub returns-then-m-once : goal.returns-then-m-once
 returns-then-m-once c = λ rows f.
-    pass_full _ _ _ _ _ _ _ _ _ _ _ c.loop-at.invariant c.min-m.ensures c.copy_pass.ensures refl c.loop-at-test.true _ _ c.in_ok-reached.ensures.marked_part c.if-m-once.true rows f
+    pass_full _ _ _ _ _ _ _ _ _ _ _ c.loop-at.invariant c.min-m.ensures c.copy_pass.ensures refl c.loop-at-test.true _ _ c.in_ok-end.ensures.marked_part c.if-m-once.true rows f
 
 pub loop-at-preserved : goal.loop-at-preserved
 loop-at-preserved c =
-    pass_more _ _ _ _ _ _ _ _ _ _ _ c.loop-at.invariant c.min-m.ensures c.copy_pass.ensures refl c.loop-at-test.true _ _ c.in_ok-reached.ensures.marked_part c.requires.0 c.if-m-once.false
-    c.in_ok-reached.ensures.at_in_bounds
+    pass_more _ _ _ _ _ _ _ _ _ _ _ c.loop-at.invariant c.min-m.ensures c.copy_pass.ensures refl c.loop-at-test.true _ _ c.in_ok-end.ensures.marked_part c.requires.0 c.if-m-once.false
+    c.in_ok-end.ensures.at_in_bounds
 
 pub returns : goal.returns
 returns c = λ rows f. search (rules, pass_good)

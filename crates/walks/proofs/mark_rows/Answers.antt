@@ -8,16 +8,16 @@ use Rattle.walks.proofs.mark_rows.Goals as goal
 pub mark_part-requires : goal.mark_part-requires
 mark_part-requires c = search (rules, before_is_plan)
 
-pub returns-in_err-first : goal.returns-in_err-first
-returns-in_err-first c = λ bs rows f.
+pub returns-in_err-at : goal.returns-in_err-at
+returns-in_err-at c = λ bs rows f.
     let p = err_from_is_err_and c.from_residual.result c.from_residual.ensures.1 in
-    rw (p.1, p.2) (first_stop _ _ _ _ _ _ c.in_err-first.ensures.marked_part bs rows f)
+    rw (p.1, p.2) (first_stop _ _ _ _ _ _ c.in_err-at.ensures.marked_part bs rows f)
 
 pub mark_passes-requires : goal.mark_passes-requires
 mark_passes-requires c =
-    let part = c.in_ok-first.ensures.marked_part in
+    let part = c.in_ok-at.ensures.marked_part in
     let pre = c.requires in
     (passes_asked _ _ _ _ _ _ part pre.0, after_fits _ _ _ _ _ _ part pre.0 pre.1, search rules, search rules, search rules)
 
 pub returns : goal.returns
-returns c = rows_marked _ _ _ _ _ _ c.in_ok-first.ensures.marked_part _ _ c.mark_passes.ensures
+returns c = rows_marked _ _ _ _ _ _ c.in_ok-at.ensures.marked_part _ _ c.mark_passes.ensures
