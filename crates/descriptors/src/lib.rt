@@ -40,7 +40,7 @@ pub struct Examined {
 // The most bytes that a descriptor has.
 const MOST_BYTES: usize = 4096;
 
-// The construct types, as the bytes that they are in a descriptor: each is told apart once, where it is read, so an enum would say no more.
+// The construct types, as the bytes that they are in a descriptor. They stay numbers, since `triplets::judge_cpt` takes the kind of a row as that byte.
 const SDA: u8 = 0x70;
 
 const ISD: u8 = 0x7E;

@@ -93,6 +93,7 @@ fn magnitude(s: &[u8], from: usize, p: usize) -> Option<u64>
     ensures { result ≡ magnitude_of (take p (drop from (half_bytes s.now))) }
 {
     let mut n: u64 = 0;
+    // By place: two half-bytes share a byte.
     for i in 0..p {
         let d = u64::from(half(s, from + i));
         if 9 < d {

@@ -44,6 +44,7 @@ fn zero_in(s: &[u8]) -> Option<usize>
 fn first_zero(s: &[u8]) -> Option<usize>
     ensures { result ≡ position (λ b. b == 0) s.now }
 {
+    // By place, as `chunks` would give each four as a slice of a length that is not known.
     let mut i = 0;
     while 4 <= s.len() - i {
         if let Some(k) = zero_in(&[s[i], s[i + 1], s[i + 2], s[i + 3]]) {

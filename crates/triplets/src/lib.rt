@@ -16,7 +16,7 @@ use fdoca::Reason;
 use plans::{GDA, Group};
 use tables::Tables;
 
-// The construct type of an RLO. A row's kind stays the construct type of its head, a number of the standard: a const parameter has to be a number.
+// The construct type of an RLO. A row's kind stays the construct type of its head: `judge_cpt` takes it so, and a const parameter has to be a number.
 pub const RLO: u8 = 0x71;
 
 // By what the plan entry of a field is divided, so that the type code stands lowest.
@@ -41,7 +41,7 @@ fn items_taken(tables: &Tables, group: Group) -> Option<usize>
 }
 
 // The count of an RLO with one more group, of repetition factor 0, which refers to a described id: 0 is carried where the group `ends` the descriptor,
-// and the group then adds nothing (document 02, Q-5). It has a function of its own, since asking for `ends` at each group takes time.
+// and the group then adds nothing (document 02, Q-5). It has a function of its own: in one with the others the loop over the groups takes longer.
 fn add_rows(tables: &Tables, group: Group, sum: Count, ends: bool) -> Result<Count, Reason>
     ensures { group.byte2 ≡ 0 → Counted rlo ends tables.now (group_of group) sum result }
 {

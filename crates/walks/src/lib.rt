@@ -130,6 +130,7 @@ fn copy_pass(plan: &mut [u64], before: usize, k: usize, m: usize)
     requires { Apart before m k × (k + m ≤ length plan.old) }
     ensures { plan.new ≡ paste plan.old k (unmarked (drop before plan.old)) m }
 {
+    // By place: the entries that are read stand in the same slice as those that are written.
     for i in 0..m {
         plan[k + i] = plan[before + i] % POSITION;
     }
@@ -199,6 +200,7 @@ pub fn write_list(plan: &[u64], size: usize, list: &mut [u32])
     let n = plan.len();
     list[0] = n as u32;
     list[1] = size as u32;
+    // By place: each entry is written at two places of the list.
     for (k, entry) in plan.iter().enumerate() {
         list[2 + k] = start_in(*entry);
         list[2 + n + k] = (*entry / ID % 256) as u32;
