@@ -2,7 +2,7 @@
 -- Assumes nothing.
 use Rattle.std.specs.Prelude.{Ok, Err}
 use mathlib.Core.Path.{◌≡◌, refl, sym, ap, ◌∙◌}
-use Prim.Native.Nat.{ℕ, ◌≤◌}
+use Prim.Native.Nat.{ℕ, ◌+◌, ◌≤◌}
 use native.Mathlib.Omega.{arith}
 use mathlib.Core.List.{List}
 use lib.ListN.{length, take, replicate, length-replicate}
@@ -21,6 +21,7 @@ use Rattle.descriptors.specs.Holds.{Ready, Examination}
 use Rattle.descriptors.proofs.Callers.{refused_check}
 use Rattle.cuts.specs.Cut.{items_of, entries_for, Fitting, CutAs}
 use Rattle.cuts.proofs.Callers.{Items, cut_refused, cut_good, marked_part_lem}
+use Rattle.listing.specs.declared.Text.{Text}
 use Rattle.listing.specs.Put.{Put, Told}
 use Rattle.listing.specs.Lines.{first_line, entry_lines, EachMeasured}
 use Rattle.listing.proofs.Putting.{both}
@@ -43,8 +44,8 @@ refused_as (ok a) w h e = absurd (let z : ◌≡◌ {A = ℕ} 0 1 = cc in let o 
 -- ---- `write_by`
 
 module _ (d s z e : List ℕ) (x : Examined) (rd : Ready d s z e x.id x.items x.rows) (y plan : List ℕ) where
-  pub refused_text : (w : Refusal) → CutAs d y plan (Err w) → (t t' : List ℕ) (r : ℕ) → Put t t' 0 r (refused_line (number_of w.reason) w.place) → r ≤ 30 → Told t t' r (length y) (items_of d y)
-  refused_text w k t t' r p l =
+  pub refused_text : (w : Refusal) → CutAs d y plan (Err w) → (t t' : Text) → t.len ≡ 0 → Put t t' (refused_line (number_of w.reason) w.place) → t'.len ≤ t.len + 30 → Told t t' (length y) (items_of d y)
+  refused_text w k t t' fresh p l =
       let again : answer (returned (items_of d y)) ≡ items_of d y = told_again (λ t m p r. data_number r) (data_told d x.items rd.accepted y) in
       let q = refused_as (items_of d y) w again (cut_refused d y plan x.items rd.accepted w k) in
       rw q.is (record { put = rw (← q.line) p; fits = omega arith })
@@ -68,9 +69,9 @@ module _ (d s z e : List ℕ) (x : Examined) (rd : Ready d s z e x.id x.items x.
     pub all_measured : EachMeasured (take n plan) y
     all_measured = rw good.marks (marks_measured good.notes y good.noted good.stands)
 
-    pub items_text : (t u t' : List ℕ) (a r : ℕ) → Put t u 0 a (first_line n (length y)) → Put u t' a r (entry_lines 0 (take n plan) y) → r ≤ 90112 → Told t t' r (length y) (items_of d y)
+    pub items_text : (t u t' : Text) → Put t u (first_line n (length y)) → Put u t' (entry_lines 0 (take n plan) y) → t'.len ≤ 90112 → Told t t' (length y) (items_of d y)
     unfolding first_line
-    items_text t u t' a r p q few =
+    items_text t u t' p q few =
         let l : entry_lines 0 (take n plan) y ≡ item_lines 0 good.notes = ap (λ es. entry_lines 0 es y) good.marks ∙ same_lines 0 good.notes y good.noted good.stands in
         record { put = rw (good.items_are, ← good.count_is, ← l) (both p q); fits = few }
 
@@ -91,14 +92,14 @@ module _ (x : Examined) (n : ℕ) (few : n ≤ 4096) where
   part_fits e = sym e ∙ part_long
 
 -- what an examination tells of a descriptor
-module _ (d s z e y t t' : List ℕ) (r : ℕ) (small : length d ≤ 4096) (few : length y ≤ 32768) where
-  pub check_text : (w : Refusal) → Examination d s z e (Err w) → Put t t' 0 r (refused_line (number_of w.reason) w.place) → r ≤ 30 → Told t t' r (length y) (block_notes d y)
+module _ (d s z e y : List ℕ) (t t' : Text) (small : length d ≤ 4096) (few : length y ≤ 32768) where
+  pub check_text : (w : Refusal) → Examination d s z e (Err w) → t.len ≡ 0 → Put t t' (refused_line (number_of w.reason) w.place) → t'.len ≤ t.len + 30 → Told t t' (length y) (block_notes d y)
   unfolding block_notes
-  check_text w x p l =
+  check_text w x fresh p l =
       let q = refused_as (check d) w (check_returned d) (refused_check d s z e w x) in
       rw (le-ltb 4096 (length d) small, le-ltb 32768 (length y) few, q.is) (record { put = rw (← q.line) p; fits = omega arith })
 
-  pub walk_text : (x : Examined) → Examination d s z e (Ok x) → Told t t' r (length y) (items_of d y) → Told t t' r (length y) (block_notes d y)
+  pub walk_text : (x : Examined) → Examination d s z e (Ok x) → Told t t' (length y) (items_of d y) → Told t t' (length y) (block_notes d y)
   unfolding block_notes
   walk_text x w p = rw (le-ltb 4096 (length d) small, le-ltb 32768 (length y) few, (w.ready x refl).accepted) p
 

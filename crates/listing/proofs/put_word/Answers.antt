@@ -1,5 +1,0 @@
-use Rattle.listing.proofs.Putting.{word_put}
-use Rattle.listing.proofs.put_word.Goals as goal
-
-pub returns : goal.returns
-returns c = search (word_put)
