@@ -1,15 +1,15 @@
 -- The packed decimal that a found item's value is: the ways through `packed` and `unpacked`.
 -- Assumes nothing.
 use Rattle.std.specs.Prelude as code
-use Rattle.std.specs.Option.{ok_or}
+use Rattle.std.specs.Option.{option_eq, ok_or}
 use Rattle.std.specs.Prelude.{if◌then◌else◌, None, Some, Ok, Err}
 use mathlib.Core.Path.{◌≡◌, refl, sym, ap, ◌∙◌}
 use Prim.Native.Nat.{ℕ, ◌+◌, ◌-◌, ◌*◌, ◌/◌, ◌%◌, ◌≤◌}
 use native.Mathlib.Omega.{arith}
 use native.Mathlib.Nat.{add-sub_cancel_left}
-use mathlib.Core.Bool.{Bool, true, false, ◌&&◌}
+use mathlib.Core.Bool.{Bool, true, false, not, ◌&&◌}
 use mathlib.Core.List.{List}
-use mathlib.Core.Option.{Option, none, some}
+use mathlib.Core.Option.{Option, none, some, some-injective}
 use lib.Dec.{leb}
 use lib.IntN.{ℤ, pos}
 use lib.ListN.{take, drop}
@@ -23,18 +23,22 @@ use Rattle.fdoca.specs.declared.Refusal.{Refusal}
 use Rattle.fdoca.specs.Returned.{reason_of, returned, option_of}
 use Rattle.fdoca.proofs.Returned.{passed_on}
 use Rattle.fdoca.specs.Basics.{Result, ok, ◌>>=◌, the}
-use Rattle.fdoca.specs.FieldType.{packed_decimal, plain, Size, bytes, digits, fixed, rule_of}
+use Rattle.fdoca.specs.FieldType as definition
+use Rattle.fdoca.specs.FieldType.{packed_decimal, type_of, Size, bytes, digits, fixed, rule_of}
 use Rattle.fdoca.specs.Walk.{Note}
 use Rattle.fdoca.specs.Packed.{packed_number}
 use Rattle.fdoca.specs.Calls.{item_at, value_of, digits_of, packed, decimal_answer}
 use Rattle.fdoca.proofs.Tests.{and_left, and_right}
-use Rattle.fdoca.proofs.TypeRows.{plain_code, same_plain}
+use Rattle.field_types.specs.declared.FieldType.{FieldType}
+use Rattle.field_types.specs.declared.FieldType.TheVariants.{FixedBytes, VariableBytes, TerminatedBytes, ShortBytes, Integer, ReversedInteger, PackedDecimal, HexFloat, ReversedFloat, BinaryFloat}
+use Rattle.field_types.specs.contracts.FieldTypePartialEq.TheImpl.{eq-value}
+use Rattle.field_types.specs.Types.{maybe_defined}
 use Rattle.fdoca.proofs.Fields.{digits_packed, packed_digits}
 use Rattle.fields.specs.Plan.{digits_part}
 use Rattle.walks.specs.declared.Found.{Found}
 use Rattle.lookups.specs.Answer.{ItemAs}
 use Rattle.blocks.specs.Packing.{digits_in, Packing, numbered, read_at}
-use Rattle.blocks.proofs.Items.{TheItem, the_item, plain_is}
+use Rattle.blocks.proofs.Items.{TheItem, the_item, type_known}
 
 -- what the read gives, by the item's note
 abbrev read : List ℕ → Note → Result (Bool × ℤ × ℕ)
@@ -47,7 +51,41 @@ pub packed_refused : (d x : List ℕ) (i : ℕ) (e : Refusal) → Err e ≡ retu
 unfolding packed
 packed_refused d x i e h = passed_on (item_at d x i >>= read x) _ (passed_on (item_at d x i) _ h)
 
-module _ (d x : List ℕ) (i : ℕ) (f : Found) (w : ItemAs (item_at d x i) x f) (c : ℕ) (ec : c ≡ plain (f.entry / 16777216 % 256)) where
+-- the test of the type
+abbrev is_packed : code.Option FieldType → Bool
+is_packed o = option_eq eq-value.it o (Some PackedDecimal)
+
+by_not : (b : Bool) → false ≡ not b → b ≡ true
+by_not true h = refl
+by_not false h = h
+
+packed_type : (o : code.Option FieldType) (T : definition.FieldType) → maybe_defined o ≡ some T → is_packed o ≡ true → T ≡ packed_decimal
+packed_type None T k h = cc
+packed_type (Some FixedBytes) T k h = cc
+packed_type (Some VariableBytes) T k h = cc
+packed_type (Some TerminatedBytes) T k h = cc
+packed_type (Some ShortBytes) T k h = cc
+packed_type (Some Integer) T k h = cc
+packed_type (Some ReversedInteger) T k h = cc
+packed_type (Some PackedDecimal) T k h = sym (some-injective packed_decimal T k)
+packed_type (Some HexFloat) T k h = cc
+packed_type (Some ReversedFloat) T k h = cc
+packed_type (Some BinaryFloat) T k h = cc
+
+test_packed : (o : code.Option FieldType) → maybe_defined o ≡ some packed_decimal → is_packed o ≡ true
+test_packed None k = cc
+test_packed (Some FixedBytes) k = cc
+test_packed (Some VariableBytes) k = cc
+test_packed (Some TerminatedBytes) k = cc
+test_packed (Some ShortBytes) k = cc
+test_packed (Some Integer) k = cc
+test_packed (Some ReversedInteger) k = cc
+test_packed (Some PackedDecimal) k = refl
+test_packed (Some HexFloat) k = cc
+test_packed (Some ReversedFloat) k = cc
+test_packed (Some BinaryFloat) k = cc
+
+module _ (d x : List ℕ) (i : ℕ) (f : Found) (w : ItemAs (item_at d x i) x f) (o : code.Option FieldType) (eo : maybe_defined o ≡ type_of (f.entry / 16777216 % 256)) where
   abbrev t : TheItem d x i f
   t = the_item d x i f w
 
@@ -55,20 +93,20 @@ module _ (d x : List ℕ) (i : ℕ) (f : Found) (w : ItemAs (item_at d x i) x f)
   unfolding packed
   by_note = rw t.is_item
 
-  type_code_lem : c ≡ plain_code t.note.field.type
-  type_code_lem = plain_is d x i f w c ec
+  known : maybe_defined o ≡ some t.note.field.type
+  known = type_known d x i f w o eo
 
-  pub packed_other : (e : Refusal) → (c ≡ 0x30 → ⊥) → e ≡ record { reason = WrongKind; place = f.start } → Err e ≡ decimal_answer (packed d x i)
+  pub packed_other : (e : Refusal) → true ≡ not (is_packed o) → e ≡ record { reason = WrongKind; place = f.start } → Err e ≡ decimal_answer (packed d x i)
   unfolding reason_of
   packed_other e n q = rw (q, t.start_is, by_note) (go t.note.field.size refl)
     where
       go : (z : Size) → t.note.field.size ≡ z → Err (record { reason = WrongKind; place = t.note.start }) ≡ decimal_answer (the (digits_of z) 18 t.note.start >>= (λ p. the (if t.note.is_null then some (pos 0) else packed_number p.0 (value_of x t.note)) 20 t.note.start >>= (λ z. ok (t.note.is_null, z, p.1))))
       go (bytes F) e = refl
-      go (digits p q) e = absurd (n (type_code_lem ∙ ap plain_code (digits_packed t.note.field t.good.field_good p q e)))
+      go (digits p q) e = let k = digits_packed t.note.field t.good.field_good p q e in let h = test_packed o (known ∙ ap some k) in cc
 
-  module _ (is-packed : c ≡ 0x30) where
+  module _ (packed_test : false ≡ not (is_packed o)) where
     type_is : t.note.field.type ≡ packed_decimal
-    type_is = same_plain t.note.field.type packed_decimal (sym type_code_lem ∙ is-packed)
+    type_is = packed_type o t.note.field.type known (by_not (is_packed o) packed_test)
 
     -- the digits of the field, and what the entry tells of them
     record Sized : Type 0 where

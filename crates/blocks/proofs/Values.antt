@@ -1,7 +1,7 @@
 -- The value of a found item: the ways through `value`.
 -- Assumes nothing.
 use Rattle.std.specs.Prelude as code
-use Rattle.std.specs.Option.{ok_or}
+use Rattle.std.specs.Option.{MatchOption, ok_or}
 use Rattle.std.specs.Prelude.{if◌then◌else◌, None, Some, Ok, Err}
 use mathlib.Core.Path.{◌≡◌, sym, ap, ◌∙◌}
 use Prim.Native.Nat.{ℕ, ◌+◌, ◌-◌, ◌/◌, ◌%◌, ◌≤◌}
@@ -18,18 +18,21 @@ use Rattle.fdoca.specs.declared.Reason.TheVariants.{WrongKind}
 use Rattle.fdoca.specs.declared.Refusal.{Refusal}
 use Rattle.fdoca.specs.Returned.{reason_of, returned}
 use Rattle.fdoca.proofs.Returned.{passed_on}
-use Rattle.fdoca.specs.Basics.{lookup, Result, ◌>>=◌, the}
-use Rattle.fdoca.specs.FieldType.{type_of, types, plain}
+use Rattle.fdoca.specs.Basics.{Result, ◌>>=◌, the}
+use Rattle.fdoca.specs.FieldType.{type_of}
 use Rattle.fdoca.specs.Item.{field_length}
 use Rattle.fdoca.specs.Walk.{Note}
 use Rattle.fdoca.specs.Calls as calls
-use Rattle.fdoca.specs.Calls.{item_at, value_of, reading_of, read_by, value}
+use Rattle.fdoca.specs.Calls.{item_at, value_of, reading_by, reading_of, read_by, value}
 use Rattle.fdoca.proofs.ValueRows.{reading_fixed, at_most_8}
 use Rattle.values.specs.declared.Reading.{Reading}
-use Rattle.values.specs.Reading.{defined_reading, maybe_defined, reading_if, reading_for}
+use Rattle.values.specs.Reading.{defined_reading, maybe_defined}
+use Rattle.field_types.specs.declared.FieldType.{FieldType}
+use Rattle.field_types.specs.Types as field_type
+use Rattle.field_types.specs.Types.{defined_type}
 use Rattle.walks.specs.declared.Found.{Found}
 use Rattle.lookups.specs.Answer.{ItemAs}
-use Rattle.blocks.proofs.Items.{TheItem, the_item}
+use Rattle.blocks.proofs.Items.{TheItem, the_item, by_type}
 
 -- what the call gives, by the item's note
 abbrev behind : List ℕ → Note → calls.Reading → Result Value
@@ -43,7 +46,7 @@ pub value_refused : (d x : List ℕ) (i : ℕ) (e : Refusal) → Err e ≡ retur
 unfolding value
 value_refused d x i e h = passed_on (item_at d x i) (read x) h
 
-module _ (d x : List ℕ) (i : ℕ) (f : Found) (w : ItemAs (item_at d x i) x f) (c : ℕ) (ec : c ≡ plain (f.entry / 16777216 % 256)) where
+module _ (d x : List ℕ) (i : ℕ) (f : Found) (w : ItemAs (item_at d x i) x f) where
   abbrev t : TheItem d x i f
   t = the_item d x i f w
 
@@ -51,15 +54,14 @@ module _ (d x : List ℕ) (i : ℕ) (f : Found) (w : ItemAs (item_at d x i) x f)
   unfolding value
   by_note = rw t.is_item
 
-  -- the reading of the field, by its code
-  type_is : lookup c types ≡ some t.note.field.type
-  unfolding type_of
-  type_is = rw (ec, t.code_is) t.good.field_good.typed
+  -- what the calls gave for its type code is its field's reading
+  pub reading_known : (o : code.Option FieldType) (u : code.Option Reading) (Q : FieldType → Type 0) → MatchOption o (u ≡ None) Q
+      → field_type.maybe_defined o ≡ type_of (f.entry / 16777216 % 256)
+      → ((T : FieldType) → Q T → maybe_defined u ≡ reading_by (defined_type T) (f.entry % 65536) (f.entry / 549755813888 % 2)) → maybe_defined u ≡ reading_of t.note.field
+  reading_known o u Q m e g =
+      rw (t.size_is, t.bias_is) at (by_type d x i f w o (u ≡ None) Q (λ T. maybe_defined u ≡ reading_by T (f.entry % 65536) (f.entry / 549755813888 % 2)) m e g)
 
-  reading_is : reading_for c (f.entry % 65536) (f.entry / 549755813888 % 2) ≡ reading_of t.note.field
-  reading_is = rw (t.size_is, t.bias_is) (ap (λ o. reading_if o (field_length t.note.field) t.note.field.bias) type_is)
-
-  module _ (u : code.Option Reading) (is_read : maybe_defined u ≡ reading_for c (f.entry % 65536) (f.entry / 549755813888 % 2)) where
+  module _ (u : code.Option Reading) (is_read : maybe_defined u ≡ reading_of t.note.field) where
     pub value_other : (r e : Refusal) → u ≡ None → Err e ≡ ok_or u r → r ≡ record { reason = WrongKind; place = f.start } → Err e ≡ returned (value d x i)
     unfolding reason_of
     value_other r e n g q = rw (same, q, t.start_is, by_note, unread)
@@ -68,11 +70,11 @@ module _ (d x : List ℕ) (i : ℕ) (f : Found) (w : ItemAs (item_at d x i) x f)
         same = let h = rw n at g in cc
 
         unread : reading_of t.note.field ≡ none
-        unread = sym reading_is ∙ sym is_read ∙ ap maybe_defined n
+        unread = sym is_read ∙ ap maybe_defined n
 
     module _ (k : Reading) (y : u ≡ Some k) where
       known : reading_of t.note.field ≡ some (defined_reading k)
-      known = sym reading_is ∙ sym is_read ∙ ap maybe_defined y
+      known = sym is_read ∙ ap maybe_defined y
 
       pub value_null : f.null ≡ true → Ok Null ≡ returned (value d x i)
       value_null z = let n : t.note.is_null ≡ true = sym t.null_is ∙ z in rw (by_note, known, n)

@@ -11,19 +11,15 @@ ghost use Rattle.descriptors.specs.Holds.{Ready};
 ghost use Rattle.cuts.specs.Cut.{Fitting};
 ghost use Rattle.blocks.specs.Answers.{items_into, ListedAs};
 ghost use Rattle.blocks.specs.Lending.{lent_at, LentPart};
+ghost use Rattle.blocks.specs.Order.{order_of};
 ghost use Rattle.blocks.specs.Packing.{Packing, read_at};
+ghost use Rattle.field_types.specs.Types.{defined_type};
 
 use descriptors::Examined;
 use fdoca::{Decimal, Reason, Refusal, State, Value};
+use field_types::FieldType;
 use tables::Tables;
 use values::Reading;
-
-// The plain type codes of what is read as a number: whole numbers, X'24' byte-reversed, with no code between the two; and packed decimals.
-const INTEGER: u8 = 0x23;
-
-const REVERSED_INTEGER: u8 = 0x24;
-
-const PACKED: u8 = 0x30;
 
 // Where an entry's type code begins.
 const CODE: u64 = 16777216;
@@ -158,22 +154,32 @@ fn refused(reason: Reason, start: usize) -> Refusal
     }
 }
 
+// Whether the bytes of a type's whole numbers are reversed, if it has whole numbers.
+fn reversed(field_type: FieldType) -> Option<bool>
+    ensures { result ≡ order_of (defined_type field_type) }
+{
+    match field_type {
+        FieldType::Integer => Some(false),
+        FieldType::ReversedInteger => Some(true),
+        _ => None,
+    }
+}
+
 // Reads a whole-number item, unless it is null.
 pub fn whole_number(descriptor: &[u8], data: &[u8], item: u32) -> Result<Option<i64>, Refusal>
     ensures { result ≡ whole_answer (whole_number descriptor.now «data».now item) }
 {
     let found = lookups::find(descriptor, data, item)?;
     let code = (found.entry / CODE % 256) as u8;
-    let plain = field_types::plain_code(code);
-    if plain != INTEGER && plain != REVERSED_INTEGER {
-        return Err(refused(Reason::WrongKind, found.start));
-    }
+    let reversed = FieldType::of_code(code)
+        .and_then(reversed)
+        .ok_or(refused(Reason::WrongKind, found.start))?;
     if found.null {
         return Ok(None);
     }
     let from = found.start + found.lead;
     let to = from + found.value;
-    let number = numbers::read(&data[from..to], plain == REVERSED_INTEGER);
+    let number = numbers::read(&data[from..to], reversed);
     Ok(Some(number))
 }
 
@@ -206,8 +212,7 @@ pub fn packed(descriptor: &[u8], data: &[u8], item: u32) -> Result<Decimal, Refu
 {
     let found = lookups::find(descriptor, data, item)?;
     let code = (found.entry / CODE % 256) as u8;
-    let plain = field_types::plain_code(code);
-    if plain != PACKED {
+    if FieldType::of_code(code) != Some(FieldType::PackedDecimal) {
         return Err(refused(Reason::WrongKind, found.start));
     }
     let digits = found.entry / DIGITS % 64;
@@ -235,10 +240,11 @@ pub fn value(descriptor: &[u8], data: &[u8], item: u32) -> Result<Value, Refusal
 {
     let found = lookups::find(descriptor, data, item)?;
     let code = (found.entry / CODE % 256) as u8;
-    let plain = field_types::plain_code(code);
-    let reading = Reading::of_field(plain, found.entry % 65536, found.entry / BIAS % 2).ok_or(
-        refused(Reason::WrongKind, found.start),
-    )?;
+    let reading = FieldType::of_code(code)
+        .and_then(|field_type| {
+            Reading::of_type(field_type, found.entry % 65536, found.entry / BIAS % 2)
+        })
+        .ok_or(refused(Reason::WrongKind, found.start))?;
     if found.null {
         return Ok(Value::Null);
     }

@@ -2,9 +2,8 @@
 -- Assumes nothing.
 use Rattle.std.specs.Prelude.{Some, None, Result, Ok, Err, if◌then◌else◌}
 use Rattle.std.specs.Prelude as given
-use mathlib.Core.Path.{◌≡◌, refl, sym, ◌∙◌, ap}
-use Prim.Native.Nat.{ℕ, ◌≤◌, ◌<◌}
-use native.Mathlib.Omega.{arith}
+use mathlib.Core.Path.{◌≡◌, refl, sym, ◌∙◌}
+use Prim.Native.Nat.{ℕ, ◌≤◌}
 use mathlib.Core.Bool.{Bool}
 use mathlib.Core.List.{List}
 use mathlib.Core.Option.{Option, none, some}
@@ -16,14 +15,9 @@ use Rattle.fdoca.specs.declared.Reason.TheVariants.{NoExactFloat}
 use Rattle.fdoca.specs.declared.Refusal.{Refusal}
 use Rattle.fdoca.specs.declared.Value.{Value}
 use Rattle.fdoca.specs.declared.Value.TheVariants as value
-use Rattle.fdoca.specs.Basics.{big, the, lookup}
-use Rattle.fdoca.specs.FieldType.{types, type_of}
-use Rattle.fdoca.specs.FieldType as definition
-use Rattle.fdoca.proofs.TypeRows.{plain_low, plain_code_lem}
-use Rattle.field_types.specs.declared.FieldType.{FieldType}
-use Rattle.field_types.specs.Types.{defined_type}
+use Rattle.fdoca.specs.Basics.{big, the}
 use Rattle.fdoca.specs.Calls as calls
-use Rattle.fdoca.specs.Calls.{ordered, read_by, reading_by}
+use Rattle.fdoca.specs.Calls.{ordered, read_by}
 use Rattle.fdoca.specs.Float.{float_of}
 use Rattle.fdoca.specs.Returned.{reason_of, returned, option_of}
 use Rattle.numbers.specs.Whole.{whole_up_to_8}
@@ -31,7 +25,7 @@ use Rattle.floats.specs.declared.Format.{Format}
 use Rattle.floats.specs.Format.{format_of}
 use Rattle.values.specs.declared.Reading.{Reading}
 use Rattle.values.specs.declared.Reading.TheVariants as reading
-use Rattle.values.specs.Reading.{defined_reading, reading_if, reading_for}
+use Rattle.values.specs.Reading.{defined_reading}
 
 module _ (k : Reading) (b : Bool) (s : List ℕ) (start : ℕ) where
   abbrev Gives : Result Value Refusal → Type 0
@@ -57,23 +51,3 @@ module _ (k : Reading) (b : Bool) (s : List ℕ) (start : ℕ) where
         go : (x : Option Float) → None ≡ option_of x → Err (record { reason = NoExactFloat; place = start }) ≡ returned (the (calls.real x) 23 start)
         go none y = refl
         go (some u) y = cc
-
--- the ways through `of_field`
-module _ (code F bias : ℕ) where
-  pub reading_of_high : 128 ≤ code → none ≡ reading_for code F bias
-  reading_of_high h = go (lookup code types) refl
-    where
-      go : (o : Option definition.FieldType) → lookup code types ≡ o → none ≡ reading_if o F bias
-      go none e = refl
-      go (some T) e = absurd (let l : code < 128 = (plain_code_lem code T e).1 in let z : ⊥ = omega arith in z)
-
-  module _ (l : code < 128) where
-    same : type_of code ≡ lookup code types
-    unfolding type_of
-    same = ap (λ n. lookup n types) (sym (plain_low code l))
-
-    pub reading_of_none : none ≡ type_of code → none ≡ reading_for code F bias
-    reading_of_none e = ap (λ o. reading_if o F bias) (e ∙ same)
-
-    pub reading_of_type : (T : FieldType) (o : Option calls.Reading) → some (defined_type T) ≡ type_of code → o ≡ reading_by (defined_type T) F bias → o ≡ reading_for code F bias
-    reading_of_type T o e h = h ∙ ap (λ o. reading_if o F bias) (e ∙ same)

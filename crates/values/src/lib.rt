@@ -7,7 +7,7 @@ ghost use Rattle.fdoca.specs.Basics.{the};
 ghost use Rattle.fdoca.specs.Calls.{read_by, reading_by};
 ghost use Rattle.fdoca.specs.Returned.{returned};
 ghost use Rattle.field_types.specs.Types.{defined_type};
-ghost use Rattle.values.specs.Reading.{defined_reading, maybe_defined, reading_for, by_length, binary_by};
+ghost use Rattle.values.specs.Reading.{defined_reading, maybe_defined, by_length, binary_by};
 
 use fdoca::{Reason, Refusal, Value};
 use field_types::FieldType;
@@ -72,17 +72,6 @@ impl Reading {
             | FieldType::ShortBytes
             | FieldType::PackedDecimal => None,
         }
-    }
-
-    // The same by a plain type code, for a caller that has only that.
-    #[tactic(auto, using(crate::proofs::Ways::reading_of_none, crate::proofs::Ways::reading_of_high))]
-    pub fn of_field(plain: u8, size: u64, bias: u64) -> Option<Reading>
-        ensures { maybe_defined result ≡ reading_for plain size bias }
-    {
-        if 128 <= plain {
-            return None;
-        }
-        Reading::of_type(FieldType::of_code(plain)?, size, bias)
     }
 
     // The value of the bytes; it is refused at the item's start where there is no exact float.

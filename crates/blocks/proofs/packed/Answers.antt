@@ -8,14 +8,14 @@ returns-in_err-found c =
     let k = c.in_err-found.ensures in
     rw (p.1, p.2) (search (packed_refused))
 
-pub returns-then-plain-ne-PACKED : goal.returns-then-plain-ne-PACKED
-returns-then-plain-ne-PACKED c = let k = c.in_ok-found.ensures in search (packed_other)
+pub returns-then-ne : goal.returns-then-ne
+returns-then-ne c = let k = c.in_ok-found.ensures in let m = c.if-ne.ensures in search (packed_other)
 
 pub returns-then-found : goal.returns-then-found
-returns-then-found c = let k = c.in_ok-found.ensures in search (packed_null)
+returns-then-found c = let k = c.in_ok-found.ensures in let m = c.if-ne.ensures in search (packed_null)
 
 pub unpacked-requires : goal.unpacked-requires
-unpacked-requires c = let k = c.in_ok-found.ensures in search (is_packing)
+unpacked-requires c = let k = c.in_ok-found.ensures in let m = c.if-ne.ensures in search (is_packing)
 
 pub returns : goal.returns
-returns c = let k = c.in_ok-found.ensures in search (packed_value)
+returns c = let k = c.in_ok-found.ensures in let m = c.if-ne.ensures in search (packed_value)
