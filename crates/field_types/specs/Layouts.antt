@@ -5,7 +5,7 @@ use Rattle.fdoca.specs.FieldType as definition
 use Rattle.field_types.specs.declared.Layout.{Layout}
 use Rattle.field_types.specs.declared.Layout.TheVariants.{Fixed, Short, Long, Terminated, Digits}
 
--- A layout's number, and the layout of a number.
+-- A layout's number, and the layout by which an item of a number is measured.
 abbrev pub number_of : Layout → ℕ
 number_of Fixed = 0
 number_of Short = 1
@@ -18,8 +18,7 @@ numbered n =
     if eqb n 0 then Fixed
     else if eqb n 1 then Short
     else if eqb n 2 then Long
-    else if eqb n 3 then Terminated
-    else Digits
+    else Terminated
 
 -- The definitions' layout that it means; a packed decimal's is fixed.
 unfoldable pub layout_of : Layout → definition.Layout
@@ -28,6 +27,10 @@ layout_of Short = counted unsigned_one
 layout_of Long = counted signed_two
 layout_of Terminated = terminated
 layout_of Digits = fixed
+
+-- And the one that a number means.
+abbrev pub layout_by : ℕ → definition.Layout
+layout_by n = layout_of (numbered n)
 
 -- The definitions' layout by its number in a plan's entry.
 unfoldable pub prefix_of : definition.Layout → ℕ

@@ -42,22 +42,21 @@ pub enum Layout {
 
 impl Layout {
     // Its number.
-    pub fn number(self) -> u64
+    pub fn number(self) -> u8
         ensures { result ≡ number_of self }
     {
-        self as u64
+        self as u8
     }
 
-    // The layout of a number; of one over 3 that of a packed decimal.
-    pub fn of_number(n: u64) -> Layout
+    // The layout by which an item of a number is measured; from 3 on it ends before a zero byte.
+    pub fn of_number(n: u8) -> Layout
         ensures { result ≡ numbered n }
     {
         match n {
             0 => Layout::Fixed,
             1 => Layout::Short,
             2 => Layout::Long,
-            3 => Layout::Terminated,
-            _ => Layout::Digits,
+            _ => Layout::Terminated,
         }
     }
 }

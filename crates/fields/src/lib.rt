@@ -13,28 +13,28 @@ use field_types::Layout;
 const LAYOUT: u64 = 1099511627776;
 
 // The length in bytes of a size: p / 2 + 1 of p digits.
-fn length_part(layout: Layout, size: u64) -> u64
+fn length_part(layout: u8, size: u64) -> u64
     requires { size < 65536 }
     ensures { (result ≡ length_part layout size) × (result < 65536) }
 {
-    match layout {
-        Layout::Digits => size / 256 / 2 + 1,
-        _ => size,
+    if layout == Layout::Digits.number() {
+        return size / 256 / 2 + 1;
     }
+    size
 }
 
 // The layout's number in a plan, and of digits whether they are odd in number, and the fraction digits.
-fn layout_part(layout: Layout, size: u64) -> u64
+fn layout_part(layout: u8, size: u64) -> u64
     ensures { (result ≡ layout_part layout size) × (result < 4096) }
 {
-    match layout {
-        Layout::Digits => 4 * (size / 256 % 2 + 2 * (size % 256)),
-        _ => layout.number(),
+    if layout == Layout::Digits.number() {
+        return 4 * (size / 256 % 2 + 2 * (size % 256));
     }
+    u64::from(layout)
 }
 
-// The entry of a field: `own` is its id, type code, mode and bias indicator as one number.
-pub fn entry_of(own: u64, layout: Layout, size: u64) -> u64
+// The entry of a field: `own` is its id, type code, mode and bias indicator as one number. The layout is a number here: entry_of answers for every number.
+pub fn entry_of(own: u64, layout: u8, size: u64) -> u64
     requires { (own < 16777216) × (size < 65536) }
     ensures { result ≡ entry_by own layout size }
 {
@@ -53,8 +53,8 @@ pub fn replaced(entry: u64, a: u8, b: u8) -> u64
     let own = entry / 65536 % 16777216;
     let code = (own / 256 % 256) as u8;
     if field_types::in_digits(code) {
-        return entry_of(own, Layout::Digits, size);
+        return entry_of(own, Layout::Digits.number(), size);
     }
-    let layout = Layout::of_number(entry / LAYOUT % 4);
+    let layout = (entry / LAYOUT % 4) as u8;
     entry_of(own, layout, size)
 }

@@ -5,7 +5,7 @@
 ghost use Rattle.std.specs.Prelude.{◌≡◌, ◌≤◌};
 ghost use Rattle.fdoca.specs.FieldType.{signed_two, unsigned_one};
 ghost use Rattle.fdoca.specs.Item.{space, measure_fixed, measure_counted, measure_value, measure_item};
-ghost use Rattle.field_types.specs.Layouts.{layout_of};
+ghost use Rattle.field_types.specs.Layouts.{layout_of, layout_by};
 ghost use Rattle.terminated.specs.Answer.{measured};
 ghost use Rattle.items.specs.Answer.{measure_sent, measure_ranged, measure_indicator, told};
 
@@ -107,17 +107,11 @@ fn indicator(s: &[u8], nullable: bool) -> Result<Option<usize>, Reason>
     }
 }
 
-// The item at the start of `s`.
+// The item at the start of `s`. The layout is a number here: an entry of a plan holds it so, and measuring answers for every number.
 #[inline(always)]
 #[tactic(auto, using(crate::proofs::Ways::measured_ways))]
-pub fn measure(
-    s: &[u8],
-    nullable: bool,
-    layout: Layout,
-    mode: u8,
-    f: usize,
-) -> Result<Measured, Reason>
-    ensures { measured result ≡ measure_item nullable (layout_of layout) mode f s.now }
+pub fn measure(s: &[u8], nullable: bool, layout: u8, mode: u8, f: usize) -> Result<Measured, Reason>
+    ensures { measured result ≡ measure_item nullable (layout_by layout) mode f s.now }
 {
     let Some(skip) = indicator(s, nullable)? else {
         return Ok(Measured {
@@ -127,7 +121,7 @@ pub fn measure(
             spare: 0,
         });
     };
-    let item = value(&s[skip..], layout, mode, f)?;
+    let item = value(&s[skip..], Layout::of_number(layout), mode, f)?;
     Ok(Measured {
         lead: skip + item.lead,
         ..item

@@ -20,6 +20,7 @@ use Rattle.fdoca.specs.Check.{good_length_sda, good_type, good_sda}
 use Rattle.fdoca.proofs.Tests.{and_left, and_right}
 use Rattle.fdoca.specs.Unfolding.{field_of}
 use Rattle.fdoca.proofs.Fields.{GoodField, mode_known, bias_known, good_sda_lem}
+use Rattle.field_types.specs.Layouts.{number_of}
 use Rattle.field_types.specs.Rows.{rule_for}
 use Rattle.field_types.specs.declared.Shape.{Shape}
 use Rattle.field_types.specs.Parameters.{size_number, shape_of}
@@ -125,10 +126,10 @@ module _ (t : List ℕ) (x : Shape) (good : good_sda t ≡ true) (ex : x ≡ sha
   size_below = let (T, q) = good_type_lem t good in rw (shape_size T q) (size_bounded T q).number_small
 
   -- the plan's entry, from its parts
-  pub entry_way : (m b c i r : ℕ) → 12 ≤ length t → m ≡ get_or t 9 0 → b ≡ get_or t 7 0 → c ≡ get_or t 3 0 → c < 256 → i ≡ get_or t 2 0 → i < 256
-      → r ≡ entry_by (i + 256 * (c + 256 * (m + 128 * b))) x.layout x.size → EntryOf t r
+  pub entry_way : (m b c i layout r : ℕ) → 12 ≤ length t → m ≡ get_or t 9 0 → b ≡ get_or t 7 0 → c ≡ get_or t 3 0 → c < 256 → i ≡ get_or t 2 0 → i < 256
+      → layout ≡ number_of x.layout → r ≡ entry_by (i + 256 * (c + 256 * (m + 128 * b))) layout x.size → EntryOf t r
   unfolding shape_of
-  entry_way m b c i r long em eb ec cf ei ifs er = record { same = λ T q. same T q; proper = λ T q z. fits T q z }
+  entry_way m b c i layout r long em eb ec cf ei ifs el er = record { same = λ T q. same T q; proper = λ T q z. fits T q z }
     where
       mode : m ≡ mode_of (parameters_of t)
       mode = em ∙ sym (mode_read t long good)
@@ -138,8 +139,8 @@ module _ (t : List ℕ) (x : Shape) (good : good_sda t ≡ true) (ex : x ≡ sha
 
       same : (T : FieldType) → type_of (code_of t) ≡ some T → r ≡ entry_of (field_of T t)
       same T q =
-          er ∙ entry_made (field_of T t) (i + 256 * (c + 256 * (m + 128 * b))) x.layout x.size q (size_bounded T q).in_two
-          (rw (← mode, ← bias, ← ec, ← ei)) (ap (λ y. y.layout) ex) (shape_size T q)
+          er ∙ entry_made (field_of T t) (i + 256 * (c + 256 * (m + 128 * b))) layout x.size q (size_bounded T q).in_two
+          (rw (← mode, ← bias, ← ec, ← ei)) (el ∙ ap (λ y. number_of y.layout) ex) (shape_size T q)
 
       fits : (T : FieldType) → type_of (code_of t) ≡ some T → (id_of t ≡ 0 → ⊥) → Proper (field_of T t)
       fits T q h =

@@ -104,7 +104,7 @@ impl<'a> DataArray<'a> {
         let bytes = self.bytes;
         let parameters = u64::from(bytes[9]) + 128 * u64::from(bytes[7]);
         let own = u64::from(self.id()) + 256 * (u64::from(bytes[3]) + 256 * parameters);
-        fields::entry_of(own, shape.layout, shape.size as u64)
+        fields::entry_of(own, shape.layout.number(), shape.size as u64)
     }
 }
 

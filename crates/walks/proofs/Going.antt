@@ -11,8 +11,7 @@ use Rattle.fdoca.specs.Basics.{Result, refuse, ok, ◌>>=◌}
 use Rattle.fdoca.specs.FieldType.{nullable}
 use Rattle.fdoca.specs.Item.{Field, refused, item, measure_item, measure}
 use Rattle.fdoca.specs.Walk.{Note, Cut, note_of, with, cut_from}
-use Rattle.field_types.specs.declared.Layout.{Layout}
-use Rattle.field_types.specs.Layouts.{numbered, layout_of}
+use Rattle.field_types.specs.Layouts.{layout_by}
 use Rattle.std.specs.Prelude.{Ok, Err, IfOk}
 use Rattle.std.specs.Prelude as code
 use Rattle.fdoca.specs.declared.Reason.{Reason}
@@ -172,11 +171,11 @@ inside_of e s at k (Err x) h = tt
 inside_of e s at k (Ok m) h = lies_inside e s at m k h
 
 -- and from the part of the data that starts with it
-module _ (e : ℕ) (s : List ℕ) (at : ℕ) (l : Layout) (q : l ≡ numbered (e / 1099511627776 % 4)) (r : code.Result Measured Reason)
-    (h : measured r ≡ measure_item (nullable (e / 16777216 % 256)) (layout_of l) (e / 4294967296 % 128) (e % 65536) (take (length s - at) (drop at s))) where
+module _ (e : ℕ) (s : List ℕ) (at : ℕ) (r : code.Result Measured Reason)
+    (h : measured r ≡ measure_item (nullable (e / 16777216 % 256)) (layout_by (e / 1099511627776 % 4)) (e / 4294967296 % 128) (e % 65536) (take (length s - at) (drop at s))) where
   pub place_measured : measured r ≡ measure_entry e (drop at s)
   unfolding measure_entry
-  place_measured = rw (q, part_to_end s at) at h
+  place_measured = rw (part_to_end s at) at h
 
   pub place_inside : at ≤ length s → IfOk r (Inside s at)
   place_inside k = inside_of e s at k r place_measured

@@ -5,11 +5,11 @@ use Rattle.fdoca.specs.FieldType.{nullable}
 use Rattle.fdoca.specs.Item.{refused, item, measure_item}
 use Rattle.fdoca.specs.Item as defined
 use Rattle.fdoca.specs.Returned.{number_of}
-use Rattle.field_types.specs.Layouts.{numbered, layout_of}
+use Rattle.field_types.specs.Layouts.{layout_by}
 use Rattle.terminated.specs.declared.Measured.{Measured}
 
 unfoldable pub measure_entry : ℕ → List ℕ → defined.Measured
-measure_entry e s = measure_item (nullable (e / 16777216 % 256)) (layout_of (numbered (e / 1099511627776 % 4))) (e / 4294967296 % 128) (e % 65536) s
+measure_entry e s = measure_item (nullable (e / 16777216 % 256)) (layout_by (e / 1099511627776 % 4)) (e / 4294967296 % 128) (e % 65536) s
 
 -- The item is F bytes without a null indicator: not a nullable form, and the layout's number 0.
 unfoldable pub is_plain : ℕ → Bool

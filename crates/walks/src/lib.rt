@@ -13,7 +13,6 @@ ghost use Rattle.walks.specs.Finding.{IsPlan, IsMark, FoundBy};
 ghost use Rattle.walks.specs.Passes.{unmarked, Apart, PassPlan, IsPassPlan, MarkedPasses, RowPlan, IsRowPlan, MarkedRows};
 
 use fdoca::{Reason, Refusal};
-use field_types::Layout;
 use terminated::Measured;
 
 // One item of a good block, and its entry in the plan.
@@ -48,7 +47,7 @@ pub fn item_at(entry: u64, data: &[u8], at: usize) -> Result<Measured, Reason>
     ensures inside { IfOk result (Inside «data».now at) }
 {
     let nullable = 128 <= entry / CODE % 256;
-    let layout = Layout::of_number(entry / LAYOUT % 4);
+    let layout = (entry / LAYOUT % 4) as u8;
     let mode = (entry / MODE % 128) as u8;
     let f = (entry % ID) as usize;
     items::measure(&data[at..], nullable, layout, mode, f)

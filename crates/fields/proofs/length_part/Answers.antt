@@ -1,8 +1,8 @@
 use Rattle.fields.proofs.Parts.{digits_length, other_length}
 use Rattle.fields.proofs.length_part.Goals as goal
 
-pub returns-in-Digits : goal.returns-in-Digits
-returns-in-Digits c = digits_length _ _ c.requires c.in-Digits.is
+pub returns-then-layout-number : goal.returns-then-layout-number
+returns-then-layout-number c = digits_length _ _ _ c.number.ensures c.requires c.if-layout-number.true
 
-pub returns-in_default : goal.returns-in_default
-returns-in_default c = other_length _ _ c.requires c.in_default.not-Digits
+pub returns : goal.returns
+returns c = other_length _ _ _ c.number.ensures c.requires c.if-layout-number.false

@@ -15,10 +15,6 @@ pub returns-in-2 : goal.returns-in-2
 unfolding numbered
 returns-in-2 c = sym (ap numbered c.in-2.is)
 
-pub returns-in-3 : goal.returns-in-3
-unfolding numbered
-returns-in-3 c = sym (ap numbered c.in-3.is)
-
 pub returns-in_default : goal.returns-in_default
 unfolding numbered
 returns-in_default c = search tests

@@ -13,5 +13,5 @@ entry_of-requires c = (
 
 pub returns : goal.returns
 returns c =
-    entry_way c.args.self.now.bytes.now c.args.shape c.requires.good c.requires.shape _ _ _ _ _ (at_least_12 c.args.self.now.bytes.now c.args.self.now.good_length)
-    c.from.ensures c.from-2.ensures c.from-4.ensures (omega arith) (c.from-3.ensures ∙ c.id.ensures) (omega arith) c.entry_of.ensures
+    entry_way c.args.self.now.bytes.now c.args.shape c.requires.good c.requires.shape _ _ _ _ _ _ (at_least_12 c.args.self.now.bytes.now c.args.self.now.good_length)
+    c.from.ensures c.from-2.ensures c.from-4.ensures (omega arith) (c.from-3.ensures ∙ c.id.ensures) (omega arith) c.number.ensures c.entry_of.ensures
