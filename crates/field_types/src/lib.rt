@@ -131,7 +131,7 @@ impl Rule {
 }
 
 // The rules, row by row.
-const RULES: [Rule; 8] = [
+const RULES: [Rule; 10] = [
     // X'01'
     Rule {
         layout: Layout::Fixed,
@@ -164,7 +164,15 @@ const RULES: [Rule; 8] = [
         has_mode: true,
         has_bias: false,
     },
-    // X'23' and X'24'
+    // X'23'
+    Rule {
+        layout: Layout::Fixed,
+        sizes: Sizes::Three(2, 4, 8),
+        default: None,
+        has_mode: false,
+        has_bias: false,
+    },
+    // X'24'
     Rule {
         layout: Layout::Fixed,
         sizes: Sizes::Three(2, 4, 8),
@@ -188,7 +196,15 @@ const RULES: [Rule; 8] = [
         has_mode: false,
         has_bias: false,
     },
-    // X'47' and X'48'
+    // X'47'
+    Rule {
+        layout: Layout::Fixed,
+        sizes: Sizes::Two(4, 8),
+        default: Some(4),
+        has_mode: false,
+        has_bias: true,
+    },
+    // X'48'
     Rule {
         layout: Layout::Fixed,
         sizes: Sizes::Two(4, 8),
@@ -236,10 +252,12 @@ impl FieldType {
             FieldType::VariableBytes => RULES[1],
             FieldType::TerminatedBytes => RULES[2],
             FieldType::ShortBytes => RULES[3],
-            FieldType::Integer | FieldType::ReversedInteger => RULES[4],
-            FieldType::PackedDecimal => RULES[5],
-            FieldType::HexFloat => RULES[6],
-            FieldType::ReversedFloat | FieldType::BinaryFloat => RULES[7],
+            FieldType::Integer => RULES[4],
+            FieldType::ReversedInteger => RULES[5],
+            FieldType::PackedDecimal => RULES[6],
+            FieldType::HexFloat => RULES[7],
+            FieldType::ReversedFloat => RULES[8],
+            FieldType::BinaryFloat => RULES[9],
         }
     }
 }
