@@ -7,18 +7,17 @@ ghost use Rattle.std.specs.Prelude.{◌≡◌, ◌+◌, ◌*◌, ◌/◌, ◌%�
 
 use std::marker::Model;
 
-// The place of an id that no triplet describes. Within the table a mark stands for none, this one for the place and 0 for the entry: with Options
-// an id would take 24 bytes in place of 16.
-const NOWHERE: u16 = 65535;
-
-// What is kept of an id. That the count is below 65,536, as its type says, is what takes a size of the lists apart again.
+// What is kept of an id. The place stands one higher, the highest as 0, and an entry of 0 is none: so an id that no triplet describes is all zeros, as
+// which memory is cleared fast. With Options an id would take 24 bytes in place of 16. That count and lower product are below 65,536 is what takes a
+// size of the lists apart again.
 #[derive(Clone, Copy)]
 struct Described {
     entry: u64,
-    start: u16,
+    lower: u32,
+    place: u16,
     count: u16,
-    lower: u16,
-    ghost below: { count < 65536 },
+    ghost count_below: { count < 65536 },
+    ghost lower_below: { lower < 65536 },
 }
 
 #[derive(Drop)]
@@ -27,13 +26,13 @@ pub struct Tables {
 }
 
 impl Model for Tables {
-    ghost use Rattle.std.specs.Prelude.{map, ◌+◌, ◌*◌};
+    ghost use Rattle.std.specs.Prelude.{map, ◌+◌, ◌*◌, ◌%◌};
     ghost use Rattle.tables.specs.Lists.{Lists};
 
     ghost Value = { Lists };
 
     ghost view = { λ t. record {
-      starts = map (λ d. d.start) t.of;
+      starts = map (λ d. (d.place + 65535) % 65536) t.of;
       sizes = map (λ d. d.count + 65536 * d.lower) t.of;
       entries = map (λ d. d.entry) t.of;
     } };
@@ -48,9 +47,9 @@ impl Tables {
     {
         let none = Described {
             entry: 0,
-            start: NOWHERE,
-            count: 0,
             lower: 0,
+            place: 0,
+            count: 0,
         };
         Tables { of: [none; 256] }
     }
@@ -59,14 +58,14 @@ impl Tables {
     pub fn is_described(&self, id: u8) -> bool
         ensures { MatchBool result (get_or self.now.starts id 0 ≢ 65535) (get_or self.now.starts id 0 ≡ 65535) }
     {
-        self.of[usize::from(id)].start != NOWHERE
+        self.of[usize::from(id)].place != 0
     }
 
     // Where the triplets stand that describe an id.
     pub fn start(&self, id: u8) -> usize
         ensures { (result ≡ get_or self.now.starts id 0) × (result < 65536) }
     {
-        usize::from(self.of[usize::from(id)].start)
+        usize::from(self.of[usize::from(id)].place.wrapping_sub(1))
     }
 
     // How many items an id stands for.
@@ -80,7 +79,7 @@ impl Tables {
     pub fn lower(&self, id: u8) -> usize
         ensures { (result ≡ get_or self.now.sizes id 0 / 65536) × (result < 65536) }
     {
-        usize::from(self.of[usize::from(id)].lower)
+        self.of[usize::from(id)].lower as usize
     }
 
     // The plan entry of an SDA's field; none for another id.
@@ -103,9 +102,9 @@ impl Tables {
     {
         self.of[usize::from(id)] = Described {
             entry,
-            start,
+            lower: u32::from(lower),
+            place: start.wrapping_add(1),
             count,
-            lower,
         };
     }
 }
