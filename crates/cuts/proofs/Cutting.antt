@@ -1,5 +1,6 @@
 -- What the walk over a plan says of a block is what the definitions say of its items, with rows to the end or without.
 -- Assumes nothing.
+use Rattle.std.specs.Prelude.{Result, Ok, Err}
 use mathlib.Core.Path.{◌≡◌, refl, sym, ap, ◌∙◌}
 use Prim.Native.Nat.{ℕ, ◌-◌, ◌≤◌, ◌<◌}
 use native.Mathlib.Omega.{arith}
@@ -7,7 +8,11 @@ use mathlib.Core.Bool.{true, false, true≢false}
 use mathlib.Core.List.{List, [], ◌∷◌, ◌++◌, map}
 use lib.ListN.{length, take, length-map}
 use lib.Seq.{sets, length-sets, take_all}
-use Rattle.fdoca.specs.Basics.{Result, refuse, ok}
+use Rattle.fdoca.specs.declared.Refusal.{Refusal}
+use Rattle.fdoca.specs.Returned.{number_of, returned}
+use Rattle.fdoca.specs.Basics as defined
+use Rattle.fdoca.specs.Basics.{refuse, ok, ◌>>=◌}
+use Rattle.fdoca.proofs.Returned.{reason_of-number_of, returned-answer}
 use Rattle.fdoca.specs.Item.{Field}
 use Rattle.fdoca.specs.Walk.{Note, walk, rows_from, walk_rows, walk_by}
 use Rattle.fdoca.specs.Unfolding.{unfolded, endless}
@@ -19,16 +24,13 @@ use Rattle.rows.specs.Pass.{pass_list, PassAt, Room}
 use Rattle.rows.proofs.Callers.{pass_planned}
 use Rattle.descriptors.specs.Holds.{Ready}
 use Rattle.descriptors.proofs.Callers.{for_unfolding}
-use Rattle.walks.specs.declared.Stop.{Stop}
-use Rattle.walks.specs.declared.Passed.{Passed}
-use Rattle.walks.specs.Marks.{stop_of, mark_of, Marked}
+use Rattle.walks.specs.Marks.{mark_of, Marked}
 use Rattle.walks.specs.Finding.{IsPlan}
-use Rattle.walks.specs.Passes.{passed_of, RowPlan, IsRowPlan, MarkedRows}
-use Rattle.walks.proofs.Callers.{as_many, all_noted, good_marks}
+use Rattle.walks.specs.Passes.{RowPlan, IsRowPlan, MarkedRows}
+use Rattle.walks.proofs.Callers.{as_many, all_noted, good_marks, refused_with_items, good_with_items}
 use Rattle.walks.proofs.RowCallers.{row_plan, rows_noted}
-use Rattle.fdoca.proofs.Stops.{walk_number}
 use Rattle.descriptors.specs.declared.Examined.{Examined}
-use Rattle.cuts.specs.Cut.{items_of, Fitting, CutAs}
+use Rattle.cuts.specs.Cut.{items_of, Fitting, MarksOf, CutAs}
 
 -- without rows to the end
 module _ (d s z e plan : List ℕ) (id : ℕ) (rd : Ready d s z e id (length plan) false) (plan' : List ℕ) (written : plan' ≡ sets plan 0 (map entry_of (list_of d id))) where
@@ -38,49 +40,34 @@ module _ (d s z e plan : List ℕ) (id : ℕ) (rd : Ready d s z e id (length pla
   pub is_plan : IsPlan plan'
   is_plan = record { fields = unfolded d; planned = plans }
 
-  module _ (x plan'' : List ℕ) (stop : Stop) (f : (fs : List Field) → Planned plan' fs → Marked stop plan'' fs x) where
+  module _ (x plan'' : List ℕ) where
     items_are : items_of d x ≡ walk (unfolded d) x
     unfolding walk_by
     items_are = rw (rd.no_rows refl)
 
-    pub items_stopped : (r : Passed) → (stop.number ≡ 0 → ⊥) → r ≡ record { number = stop.number; place = stop.place; count = 0 } → CutAs d x plan'' r
-    unfolding stop_of passed_of
-    items_stopped r k q =
+    pub items_stopped : (e : Refusal) → ((fs : List Field) → Planned plan' fs → Marked (Err e) plan'' fs x) → CutAs d x plan'' (Err e)
+    items_stopped e f =
+        let h : items_of d x ≡ refuse (number_of e.reason) e.place = items_are ∙ refused_with_items (walk (unfolded d) x) (λ ns. tt) (number_of e.reason) e.place (f (unfolded d) plans).answered in
         record {
-          answered = go (walk (unfolded d) x) refl (f (unfolded d) plans).answered;
-          marks = λ ns h. absurd (not_good ns h);
-          noted = λ ns h. absurd (not_good ns h);
-          few = rw q (omega arith);
-          within = rw q (omega arith);
+          counted = rw (h, reason_of-number_of e.reason);
+          marked = λ ns g. absurd (let z : ◌≡◌ {A = ℕ} 0 1 = cc in let o : ⊥ = omega arith in o);
         }
-      where
-        go : (w : Result (List Note)) → walk (unfolded d) x ≡ w → stop ≡ stop_of w → r ≡ passed_of (items_of d x)
-        go (refuse n p) h a = rw (items_are, h, q, a)
-        go (ok ns) h a = absurd (k (rw a))
 
-        not_good : (ns : List Note) → items_of d x ≡ ok ns → ⊥
-        not_good ns h = k (rw (sym items_are ∙ h) at (ap (λ (y : Stop). y.number) (f (unfolded d) plans).answered))
-
-    pub items_cut : (r : Passed) → stop.number ≡ 0 → r ≡ record { number = 0; place = 0; count = length plan'' } → CutAs d x plan'' r
-    unfolding stop_of passed_of
-    items_cut r k q = go (walk (unfolded d) x) refl (f (unfolded d) plans).answered
-      where
-        go : (w : Result (List Note)) → walk (unfolded d) x ≡ w → stop ≡ stop_of w → CutAs d x plan'' r
-        go (refuse n p) h a = absurd (let y : n ≡ 0 = rw a at k in let o : ⊥ = omega (arith, walk_number (unfolded d) x n p h) in o)
-        go (ok ns) h a =
-            let m : plan'' ≡ map mark_of ns = (f (unfolded d) plans).marks ∙ good_marks (unfolded d) x ns h in
-            let l : length plan'' ≡ length ns = ap length m ∙ length-map ns mark_of in
-            let c : length ns ≡ length plan = as_many plan' (unfolded d) x ns plans h ∙ ap length written ∙ length-sets plan 0 (map entry_of (list_of d id)) in
-            record {
-              answered = rw (items_are, h, q, l);
-              marks = λ ms e. (let y : ns ≡ ms = same ms e in rw (← y, ← l) (take_all (length plan'') plan'' (omega arith) ∙ m));
-              noted = λ ms e. (let y : ns ≡ ms = same ms e in rw (← y) (all_noted plan' (unfolded d) x ns plans h));
-              few = rw q (omega (arith, rd.small));
-              within = rw q (omega arith);
-            }
-          where
-            same : (ms : List Note) → items_of d x ≡ ok ms → ns ≡ ms
-            same ms e = let y : walk (unfolded d) x ≡ ok ms = sym items_are ∙ e in cc
+    pub items_cut : (u : Unit {0}) → ((fs : List Field) → Planned plan' fs → Marked (Ok u) plan'' fs x) → CutAs d x plan'' (Ok (length plan''))
+    items_cut u f =
+        let (ns, h, _) = good_with_items (walk (unfolded d) x) (λ ns. tt) u (f (unfolded d) plans).answered in
+        let m : plan'' ≡ map mark_of ns = (f (unfolded d) plans).marks ∙ good_marks (unfolded d) x ns h in
+        let l : length plan'' ≡ length ns = ap length m ∙ length-map ns mark_of in
+        let c : length ns ≡ length plan = as_many plan' (unfolded d) x ns plans h ∙ ap length written ∙ length-sets plan 0 (map entry_of (list_of d id)) in
+        let all : MarksOf ns plan'' =
+        record {
+          marks = rw (← l) (take_all (length plan'') plan'' (omega arith) ∙ m);
+          noted = all_noted plan' (unfolded d) x ns plans h;
+          few = omega (arith, rd.small);
+          within = omega arith;
+        } in
+        let same : (ms : List Note) → items_of d x ≡ ok ms → ns ≡ ms = λ ms e. (let y : walk (unfolded d) x ≡ ok ms = sym items_are ∙ e in cc) in
+        record { counted = rw (items_are, h, l); marked = λ ms e. (let y : ns ≡ ms = same ms e in rw (← y) all) }
 
 -- with rows to the end
 module _ (d s z e plan : List ℕ) (id before : ℕ) (rd : Ready d s z e id before true) (size : 4096 ≡ length plan) where
@@ -128,16 +115,23 @@ module _ (d s z e plan : List ℕ) (id before : ℕ) (rd : Ready d s z e id befo
     pub marks_most : length plan' ≤ 4096
     marks_most = omega (arith, rows_long)
 
-    pub rows_cut : (x plan'' : List ℕ) (r : Passed) → ((bs rows : List Field) → RowPlan plan' before once bs rows → MarkedRows r plan' plan'' bs rows x) → CutAs d x plan'' r
+    pub rows_cut : (x plan'' : List ℕ) (r : Result ℕ Refusal) → ((bs rows : List Field) → RowPlan plan' before once bs rows → MarkedRows r plan' plan'' bs rows x) → CutAs d x plan'' r
     unfolding walk_by walk_rows
     rows_cut x plan'' r f =
-        let m = f (list_of d id) rows plans_rows in
+        let m : MarkedRows r plan' plan'' (list_of d id) rows x = f (list_of d id) rows plans_rows in
+        let c : r ≡ returned (items_of d x >>= (λ ns. ok (length ns))) =
+        sym (returned-answer r) ∙ ap returned (m.answered ∙ ap (λ (w : defined.Result (List Note)). w >>= (λ ns. ok (length ns))) walks) in
         record {
-          answered = m.answered ∙ ap passed_of walks;
-          marks = λ ns h. m.marks ns (walks ∙ h);
-          noted = λ ns h. rows_noted (length plan') rows (list_of d id) x ns plans_rows.proper_rows plans_rows.proper_before (walks ∙ h);
-          few = omega (arith, m.few, rows_long);
-          within = omega (arith, m.few, m.same_length);
+          counted = c;
+          marked = λ ns h. (
+              let q : r ≡ Ok (length ns) = c ∙ rw h in
+              let few : length ns ≤ length plan' = rw q at m.few in
+              record {
+                marks = m.marks ns (walks ∙ h);
+                noted = rows_noted (length plan') rows (list_of d id) x ns plans_rows.proper_rows plans_rows.proper_before (walks ∙ h);
+                few = omega (arith, rows_long);
+                within = omega (arith, m.same_length);
+              });
         }
       where
         walks : rows_from (length plan') 0 rows (list_of d id) x ≡ items_of d x

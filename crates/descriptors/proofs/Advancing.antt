@@ -1,42 +1,45 @@
 -- The ways over the triplet at p, in the words of the code: its bytes are a part of the descriptor, and the row before it was closed.
 -- Assumes nothing.
+use Rattle.std.specs.Prelude.{Option, Some, None, Result, Ok, Err, IfSome, IsErrAnd}
+use Rattle.std.proofs.lemmas.Result.{err_from_is_err_and}
 use mathlib.Core.Path.{◌≡◌, refl, sym, ap, ◌∙◌}
-use mathlib.Core.Logic.{◌≢◌, ◌⊎◌, inl, inr}
+use mathlib.Core.Logic.{◌⊎◌, inl, inr}
 use Prim.Native.Nat.{ℕ, ◌+◌, ◌-◌, ◌≤◌, ◌<◌}
 use native.Mathlib.Omega.{arith}
 use native.Mathlib.Nat.{add-sub_cancel_left}
-use mathlib.Core.Bool.{Bool, true, false, true≢false}
-use mathlib.Core.List.{List}
-use lib.Dec.{eqb}
+use mathlib.Core.List.{List, [], ◌∷◌}
 use mathlib.Core.Option.{none}
+use lib.Dec.{eqb}
 use lib.ListN.{length, get_or, take, drop}
 use lib.Seq.{get_or-take, get_or-drop}
-use borrow.Author.Tests.{ne_eqb, eqb-true, eqb-false}
-use Rattle.fdoca.proofs.Tests.{by_test}
-use Rattle.fdoca.specs.Triplet.{construct_of}
-use Rattle.fdoca.specs.Unfolding.{closed}
-use Rattle.fdoca.specs.Between.{entries}
-use Rattle.sdas.specs.Tables.{Agreeing}
+use borrow.Author.Tests.{ne_eqb}
+use Rattle.fdoca.specs.declared.Reason.{Reason}
+use Rattle.fdoca.specs.Returned.{number_of}
+use Rattle.fdoca.specs.Basics.{refuse}
+use Rattle.fdoca.specs.Triplet.{triplets, construct_of}
+use Rattle.fdoca.specs.Check.{check_triplets, begin}
+use Rattle.fdoca.specs.Unfolding.{Described, closed}
+use Rattle.fdoca.specs.Between.{entries, state}
+use Rattle.tables.specs.Lists.{Lists}
 use Rattle.triplets.specs.Judged.{JudgedISD}
 use Rattle.descriptors.specs.declared.Step.{Step}
-use Rattle.descriptors.specs.Holds.{with_groups, Tables, EndsAt, no_cpt, Held, ClosedRow, Bare, SteppedSDA, SteppedRow, SteppedCPT, Advanced}
-use Rattle.descriptors.proofs.Moving.{sda_moved, row_moved, cpt_moved, isd_moved, other_moved}
+use Rattle.descriptors.specs.Holds.{Tables, EndsAt, no_cpt, Last, Held, ClosedRow, TookSDA, SteppedSDA, TookRow, SteppedRow, TookCPT, SteppedCPT, Moved, Advanced}
+use Rattle.descriptors.proofs.Moving.{sda_refused, sda_moved, row_refused, row_moved, cpt_refused, cpt_moved, isd_refused, isd_moved, other_refused}
 
--- an RLO's construct type or a GDA's, and another one
-grouped : (k : ℕ) → with_groups k ≡ true → (k ≡ 0x71) ⊎ (k ≡ 0x75)
-unfolding with_groups
-grouped k = by_test (λ b. b ≡ true → (k ≡ 0x71) ⊎ (k ≡ 0x75)) (eqb k 0x71) (λ t h. inl (eqb-true k 0x71 t)) (λ t h. inr (eqb-true k 0x75 h))
+pub held_few : (d : List ℕ) (T : Lists) (p : ℕ) (x : Option Step) → Held d T p x → IfSome x (λ y. y.count ≤ 4096)
+held_few d T p x held = go x (closed held.0) held.1.last
+  where
+    go : (x : Option Step) (ds : List (ℕ × Described)) → Last x ds → IfSome x (λ y. y.count ≤ 4096)
+    go None ds l = tt
+    go (Some y) [] l = absurd l
+    go (Some y) (c ∷ ds) l = l.small
 
-not_grouped : (k : ℕ) → with_groups k ≡ false → (k ≡ 0x71 → ⊥) × (k ≡ 0x75 → ⊥)
-unfolding with_groups
-not_grouped k =
-    by_test (λ b. b ≡ false → (k ≡ 0x71 → ⊥) × (k ≡ 0x75 → ⊥)) (eqb k 0x71) (λ t h. absurd (true≢false h))
-    (λ t h. (eqb-false k 0x71 t, eqb-false k 0x75 h))
+-- the refusal that a `?` passes on
+stopped : (d : List ℕ) (T : Lists) (p : ℕ) (r : Result (Option Step) Reason) (m : Reason) → IsErrAnd r (λ y. y ≡ m)
+    → check_triplets begin (triplets d) ≡ refuse (number_of m) p → Advanced d T p r
+stopped d T p r m e q = let w = err_from_is_err_and r e in rw w.1 (rw w.2 q)
 
-pub held_agree : (d s z e : List ℕ) (p : ℕ) (x : Step) → Held d s z e p x → Agreeing s z e
-held_agree d s z e p x held = record { described_ids = entries held.0.described; agrees = held.1.tables.agrees }
-
-module _ (d s z e : List ℕ) (p n k : ℕ) (x : Step) (held : Held d s z e p x) (there : p < length d) (en : n ≡ get_or d p 0) (least : 2 ≤ n)
+module _ (d : List ℕ) (T : Lists) (p n k : ℕ) (x : Option Step) (held : Held d T p x) (there : p < length d) (en : n ≡ get_or d p 0) (least : 2 ≤ n)
     (whole : n ≤ length d - p) (ek : k ≡ get_or (take (p + n - p) (drop p d)) 1 0) where
   same : take (p + n - p) (drop p d) ≡ take n (drop p d)
   same = ap (λ m. take m (drop p d)) (add-sub_cancel_left p n)
@@ -44,43 +47,50 @@ module _ (d s z e : List ℕ) (p n k : ℕ) (x : Step) (held : Held d s z e p x)
   kind : (c : ℕ) → k ≡ c → get_or (take n (drop p d)) 1 0 ≡ c
   kind c q = sym (ap (λ t. get_or t 1 0) same) ∙ sym ek ∙ q
 
-  ends : k ≢ 0x7F → EndsAt d p
+  ends : (k ≡ 0x7F → ⊥) → EndsAt d p
   ends h = no_cpt (λ q. h (ek ∙ ap (λ t. get_or t 1 0) same ∙ get_or-take n (drop p d) 1 0 (omega arith) ∙ get_or-drop p d 1 0 ∙ q))
 
-  pub over_cpt : (r : Step) → k ≡ 0x7F → SteppedCPT (eqb (p + n) (length d)) (take (p + n - p) (drop p d)) s z e x r → Advanced d s z e p r
-  over_cpt r q st = cpt_moved d s z e p n x r held.0 held.1 there en least whole (kind 0x7F q) (rw same at st)
+  pub cpt_stopped : (r : Result (Option Step) Reason) (m : Reason) → k ≡ 0x7F → SteppedCPT (eqb (p + n) (length d)) (take (p + n - p) (drop p d)) T x (Err m)
+      → IsErrAnd r (λ y. y ≡ m) → Advanced d T p r
+  cpt_stopped r m q st e =
+      stopped d T p r m e (cpt_refused d T p n x held.0 held.1 there en least whole (kind 0x7F q) (number_of m) ((rw same at st) p (entries held.0.described) held.1.tables.agrees))
 
-  module _ (s' z' e' : List ℕ) (cl : ClosedRow d s z e s' z' e' p x) (nc : k ≡ 0x7F → ⊥) where
-    tables : Tables d s' z' e' (closed held.0) p
+  pub over_cpt : (y : Step) → k ≡ 0x7F → TookCPT (eqb (p + n) (length d)) (take (p + n - p) (drop p d)) T x y → Moved d T p (Some y)
+  over_cpt y q st = cpt_moved d T p n x held.0 held.1 there en least whole (kind 0x7F q) y (rw same at st)
+
+  module _ (T' : Lists) (cl : ClosedRow d T T' p x) (nc : k ≡ 0x7F → ⊥) where
+    tables : Tables d T'.starts T'.sizes T'.entries (closed held.0) p
     tables = cl.tables held.0 held.1 (ends nc)
 
-    pub tables_agree : Agreeing s' z' e'
-    tables_agree = record { described_ids = entries (closed held.0); agrees = tables.agrees }
+    pub sda_stopped : (T'' : Lists) (r : Result (Option Step) Reason) (m : Reason) → k ≡ 0x70 → SteppedSDA (take (p + n - p) (drop p d)) p T' T'' (Err m)
+        → IsErrAnd r (λ y. y ≡ m) → Advanced d T'' p r
+    sda_stopped T'' r m q st e =
+        stopped d T'' p r m e (sda_refused d T T' p n x held.0 held.1 there en least whole tables (kind 0x70 q) (number_of m) ((rw same at st) (entries (closed held.0)) tables.agrees))
 
-    pub over_sda : (r : Step) (s'' z'' e'' : List ℕ) → length d ≤ 4096 → k ≡ 0x70 → SteppedSDA (take (p + n - p) (drop p d)) p s' z' e' s'' z'' e'' r → Advanced d s'' z'' e'' p r
-    over_sda r s'' z'' e'' small q st =
-        sda_moved d s z e s' z' e' p n x r held.0 held.1 there en least whole small s'' z'' e'' tables (kind 0x70 q) (rw same at st)
+    pub over_sda : (T'' : Lists) (y : Step) → length d ≤ 4096 → k ≡ 0x70 → TookSDA (take (p + n - p) (drop p d)) p T' T'' y → Moved d T'' p (Some y)
+    over_sda T'' y small q st = sda_moved d T T' p n x held.0 held.1 there en least whole tables (kind 0x70 q) T'' y small (rw same at st)
 
-    pub over_row : (r : Step) (b : Bool) → b ≡ with_groups k → b ≡ true → SteppedRow (eqb (p + n) (length d)) (take (p + n - p) (drop p d)) p s' z' e' r → Advanced d s' z' e' p r
-    over_row r b eb h st =
-        row_moved d s z e s' z' e' p n x r held.0 held.1 there en least whole tables (of_kind (grouped k (sym eb ∙ h))) (rw same at st)
-      where
-        of_kind : (k ≡ 0x71) ⊎ (k ≡ 0x75) → (get_or (take n (drop p d)) 1 0 ≡ 0x71) ⊎ (get_or (take n (drop p d)) 1 0 ≡ 0x75)
-        of_kind (inl q) = inl (kind 0x71 q)
-        of_kind (inr q) = inr (kind 0x75 q)
+    row_kind : (k ≡ 0x71) ⊎ (k ≡ 0x75) → (get_or (take n (drop p d)) 1 0 ≡ 0x71) ⊎ (get_or (take n (drop p d)) 1 0 ≡ 0x75)
+    row_kind (inl q) = inl (kind 0x71 q)
+    row_kind (inr q) = inr (kind 0x75 q)
 
-    pub over_isd : (r : Step) (m : ℕ) → k ≡ 0x7E → JudgedISD (take (p + n - p) (drop p d)) p m → Bare m r → Advanced d s' z' e' p r
-    over_isd r m q j b = isd_moved d s z e s' z' e' p n m x r held.0 held.1 there en least whole tables (kind 0x7E q) (rw same at j) b
+    pub row_stopped : (r : Result (Option Step) Reason) (m : Reason) → (k ≡ 0x71) ⊎ (k ≡ 0x75)
+        → SteppedRow (eqb (p + n) (length d)) (take (p + n - p) (drop p d)) p T' (Err m) → IsErrAnd r (λ y. y ≡ m) → Advanced d T' p r
+    row_stopped r m q st e =
+        stopped d T' p r m e (row_refused d T T' p n x held.0 held.1 there en least whole tables (row_kind q) (number_of m) ((rw same at st) (entries (closed held.0)) tables.agrees))
 
-    other : (r : Step) → (k ≡ 0x70 → ⊥) → with_groups k ≡ false → (k ≡ 0x7E → ⊥) → Bare 3 r → Advanced d s' z' e' p r
-    other r a g c w =
-        let (b₁, b₅) = not_grouped k g in
+    pub over_row : (y : Step) → (k ≡ 0x71) ⊎ (k ≡ 0x75) → TookRow (eqb (p + n) (length d)) (take (p + n - p) (drop p d)) p T' y → Moved d T' p (Some y)
+    over_row y q st = row_moved d T T' p n x held.0 held.1 there en least whole tables (row_kind q) y (rw same at st)
+
+    pub isd_stopped : (r : Result (Option Step) Reason) (m : Reason) → k ≡ 0x7E → JudgedISD (take (p + n - p) (drop p d)) p (Err m)
+        → IsErrAnd r (λ y. y ≡ m) → Advanced d T' p r
+    isd_stopped r m q st e =
+        stopped d T' p r m e (isd_refused d T T' p n x held.0 held.1 there en least whole tables (kind 0x7E q) (number_of m) ((rw same at st).result (state held.0)))
+
+    pub over_isd : k ≡ 0x7E → JudgedISD (take (p + n - p) (drop p d)) p (Ok tt) → Moved d T' p None
+    over_isd q st = isd_moved d T T' p n x held.0 held.1 there en least whole tables (kind 0x7E q) ((rw same at st).result (state held.0))
+
+    pub over_other : (k ≡ 0x70 → ⊥) → (k ≡ 0x71 → ⊥) → (k ≡ 0x75 → ⊥) → (k ≡ 0x7E → ⊥) → check_triplets begin (triplets d) ≡ refuse 3 p
+    over_other a b₁ b₅ c =
         let q : construct_of (take n (drop p d)) ≡ none = rw (kind k refl, ne_eqb k 0x70 a, ne_eqb k 0x71 b₁, ne_eqb k 0x75 b₅, ne_eqb k 0x7E c, ne_eqb k 0x7F nc) in
-        other_moved d s z e s' z' e' p n x r held.0 held.1 there en least whole q w
-
-pub over_other : (d s z e : List ℕ) (p n : ℕ) (x r : Step) (b : Bool) → Held d s z e p x → p < length d → n ≡ get_or d p 0 → 2 ≤ n → n ≤ length d - p
-    → (s' z' e' : List ℕ) → ClosedRow d s z e s' z' e' p x → (get_or (take (p + n - p) (drop p d)) 1 0 ≡ 0x7F → ⊥)
-    → (get_or (take (p + n - p) (drop p d)) 1 0 ≡ 0x70 → ⊥) → b ≡ with_groups (get_or (take (p + n - p) (drop p d)) 1 0) → b ≡ false
-    → (get_or (take (p + n - p) (drop p d)) 1 0 ≡ 0x7E → ⊥) → Bare 3 r → Advanced d s' z' e' p r
-over_other d s z e p n x r b held there en least whole s' z' e' cl nc a eb h c w =
-    other d s z e p n (get_or (take (p + n - p) (drop p d)) 1 0) x held there en least whole refl s' z' e' cl nc r a (sym eb ∙ h) c w
+        other_refused d T p n x held.0 held.1 there en least whole q

@@ -1,36 +1,44 @@
 -- What a caller knows of an examined descriptor: its refusal, and that a plan of as many entries as there are items stands for the unfolding.
 -- Assumes nothing.
-use mathlib.Core.Path.{◌≡◌, sym, ap, ◌∙◌}
+use mathlib.Core.Path.{◌≡◌, refl, sym, ap, ◌∙◌}
 use Prim.Native.Nat.{ℕ, ◌≤◌}
 use native.Mathlib.Omega.{arith}
 use mathlib.Core.Bool.{Bool}
 use mathlib.Core.List.{List, map}
 use lib.ListN.{length}
 use lib.Seq.{sets, length-sets, take_all}
-use Rattle.fdoca.specs.Basics.{Result, refuse, ok}
+use Rattle.std.specs.Prelude.{Err}
+use Rattle.fdoca.specs.declared.Refusal.{Refusal}
+use Rattle.fdoca.specs.Basics.{refuse, ok}
+use Rattle.fdoca.specs.Basics as defined
+use Rattle.fdoca.specs.Returned.{reason_of, returned}
 use Rattle.fdoca.specs.Check.{check}
 use Rattle.fdoca.specs.Unfolding.{unfolded, repeated}
-use Rattle.fdoca.specs.Calls.{checked}
 use Rattle.fields.specs.Plan.{entry_of, Planned}
 use Rattle.plans.specs.Tied.{described_by, list_of}
 use Rattle.plans.proofs.Fields.{planned, first_numbers}
-use Rattle.descriptors.specs.declared.Examined.{Examined}
 use Rattle.descriptors.specs.Holds.{Ready, examined, Examination}
 
-pub refused_by_lem : (d s z e : List ℕ) (x : Examined) → Examination d s z e x → (x.number ≡ 0 → ⊥) → check d ≡ refuse x.number x.place
-refused_by_lem d s z e x w h = go (check d) w.result
+-- the check's refusal, which examining gave
+pub record RefusedBy (d : List ℕ) (w : Refusal) : Type 0 where
+  pub number : ℕ
+  pub place : ℕ
+  pub refused : check d ≡ refuse number place
+  pub same : w ≡ record { reason = reason_of number; place = place }
+
+pub refused_by_lem : (d s z e : List ℕ) (w : Refusal) → Examination d s z e (Err w) → RefusedBy d w
+refused_by_lem d s z e w x = go (check d) refl x.result
   where
-    go : (c : Result ℕ) → x ≡ examined c (described_by d) (repeated d) → c ≡ refuse x.number x.place
-    go (refuse n p) q = rw q
-    go (ok n) q = absurd (h (rw q))
+    go : (c : defined.Result ℕ) → check d ≡ c → Err w ≡ examined c (described_by d) (repeated d) → RefusedBy d w
+    go (refuse n p) k q = record { number = n; place = p; refused = k; same = cc }
+    go (ok n) k q = absurd (let y : ⊥ = cc in y)
 
 -- what it tells of the check
-pub as_checked : (d s z e : List ℕ) (x : Examined) → Examination d s z e x → record { number = x.number; place = x.place; items = x.items } ≡ checked (check d)
-as_checked d s z e x w = go (check d) w.result
+pub refused_check : (d s z e : List ℕ) (w : Refusal) → Examination d s z e (Err w) → Err w ≡ returned (check d)
+refused_check d s z e w x = go (refused_by_lem d s z e w x)
   where
-    go : (c : Result ℕ) → x ≡ examined c (described_by d) (repeated d) → record { number = x.number; place = x.place; items = x.items } ≡ checked c
-    go (refuse n p) q = rw q
-    go (ok n) q = rw q
+    go : RefusedBy d w → Err w ≡ returned (check d)
+    go r = rw (r.refused, r.same)
 
 module _ (d s z e plan : List ℕ) (id : ℕ) (rows : Bool) (rd : Ready d s z e id (length plan) rows) where
   pub ready_room : length (list_of d id) ≤ length plan

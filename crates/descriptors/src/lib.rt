@@ -2,311 +2,215 @@
 
 #![tactic(auto)]
 
-ghost use Rattle.std.specs.Prelude.{◌≡◌, ◌+◌, ◌-◌, ◌≤◌, ◌<◌, ◌&&◌, length, get_or, replicate};
+ghost use Rattle.std.specs.Prelude.{◌≡◌, ◌+◌, ◌-◌, ◌≤◌, ◌<◌, ◌&&◌, length, get_or, replicate, IfSome};
 ghost use Rattle.fdoca.specs.Check.{check};
 ghost use Rattle.fdoca.specs.Unfolding.{endless};
+ghost use Rattle.fdoca.specs.Returned.{returned};
 ghost use Rattle.rows.specs.Pass.{pass_list};
-ghost use Rattle.fdoca.specs.Calls.{checked};
-ghost use Rattle.sdas.specs.Tables.{Agreeing};
-ghost use Rattle.descriptors.specs.Holds.{with_groups, MakesSame, Held, ClosedRow, SteppedSDA, SteppedRow, SteppedCPT, Advanced, Bare, to_the_end, last_byte, Repeating, Examination};
+ghost use Rattle.descriptors.specs.Holds.{MakesSame, Held, ClosedRow, SteppedSDA, SteppedRow, SteppedCPT, Advanced, to_the_end, last_byte, Repeating, Examination};
 
-use fdoca::Checked;
+use fdoca::{Reason, Refusal};
 use plans::GDA;
+use tables::Tables;
 use triplets::RLO;
 
-// What the triplets so far have led to: a refusal's number, or the SDA, RLO or GDA that was described last, with its id (0 for none) and its
-// count, and its place. `head` is the construct type of an RLO or a GDA while a CPT may continue it, else 0.
+// A row that a CPT may continue: the construct type of its head, an RLO's or a GDA's, and its place.
 #[derive(Clone, Copy)]
-pub struct Step {
-    pub number: u8,
-    pub head: u8,
-    pub id: u8,
-    pub at: usize,
-    pub count: usize,
+struct Row {
+    head: u8,
+    at: usize,
 }
 
-// What examining a descriptor gives: the check's answer, the id of the triplet that describes the block, and whether it has rows to the end.
+// What was described last: the id of an SDA, an RLO or a GDA, and its count of items; and the row that a CPT may continue, if there is one.
+#[derive(Clone, Copy)]
+struct Step {
+    id: u8,
+    count: usize,
+    row: Option<Row>,
+}
+
+// An accepted descriptor: how many items it describes, the id of the triplet that describes the block, and whether it has rows to the end.
 #[derive(Clone, Copy)]
 pub struct Examined {
-    pub number: u32,
-    pub place: u32,
     pub items: u32,
     pub id: u8,
     pub rows: bool,
 }
 
-// The construct types.
+// The most bytes that a descriptor has.
+const MOST_BYTES: usize = 4096;
+
+// The construct types, as the bytes that they are in a descriptor. They stay numbers, since `triplets::judge_cpt` takes the kind of a row as that byte.
 const SDA: u8 = 0x70;
 
 const ISD: u8 = 0x7E;
 
 const CPT: u8 = 0x7F;
 
-// A step that describes nothing: a refusal, or 0 for an ISD.
-fn bare(number: u8) -> Step
-    ensures { Bare number result }
-{
-    Step {
-        number: number,
-        head: 0,
-        id: 0,
-        at: 0,
-        count: 0,
-    }
-}
-
 // The place of a row that makes the list of the one at `at`, which ends at p: its own, or, where its only group is another row once, that
 // row's. So going down the references never passes through such rows one by one.
-fn row_place(desc: &[u8], starts: &[u16; 256], entries: &[u64; 256], at: usize, p: usize) -> u16
+fn row_place(desc: &[u8], tables: &Tables, at: usize, p: usize) -> usize
     requires { (6 ≤ get_or desc.now at 0) × (at + get_or desc.now at 0 ≤ p) × (p ≤ length desc.now) × (p ≤ 4096) }
-    ensures { MakesSame desc.now starts.now entries.now at p result }
+    ensures { MakesSame desc.now tables.now at p result × (result < 65536) }
 {
-    let own = at as u16;
-    if p - at != 6 {
-        return own;
+    let id = desc[at + 3];
+    if p - at == 6 && desc[at + 5] == 1 && tables.field(id).is_none() {
+        return tables.start(id);
     }
-    if desc[at + 5] != 1 {
-        return own;
-    }
-    let id = numbers::wide(desc[at + 3]);
-    if entries[id] != 0 {
-        return own;
-    }
-    starts[id]
+    at
 }
 
 // Enters the row of the step before, if there is one, into the tables: it ends at p.
-fn close(
-    desc: &[u8],
-    starts: &mut [u16; 256],
-    sizes: &mut [u32; 256],
-    entries: &mut [u64; 256],
-    p: usize,
-    x: Step,
-)
-    requires { Held desc.now starts.old sizes.old entries.old p x × (length desc.now ≤ 4096) }
-    ensures { ClosedRow desc.now starts.old sizes.old entries.old starts.new sizes.new entries.new p x }
+fn close(desc: &[u8], tables: &mut Tables, p: usize, x: Option<Step>)
+    requires { Held desc.now tables.old p x × (length desc.now ≤ 4096) }
+    ensures { ClosedRow desc.now tables.old tables.new p x }
 {
-    if x.head == 0 {
+    let Some(step) = x else {
         return;
-    }
-    let place = row_place(desc, starts, entries, x.at, p);
-    let id = numbers::wide(x.id);
-    starts[id] = place;
-    sizes[id] = x.count as u32;
-    entries[id] = 0;
+    };
+    let Some(row) = step.row else {
+        return;
+    };
+    let start = row_place(desc, tables, row.at, p);
+    tables.describe(step.id, start as u16, step.count as u16, 0, 0);
 }
 
-fn sda_step(
-    t: &[u8],
-    p: usize,
-    starts: &mut [u16; 256],
-    sizes: &mut [u32; 256],
-    entries: &mut [u64; 256],
-) -> Step
+fn sda_step(t: &[u8], p: usize, tables: &mut Tables) -> Result<Step, Reason>
     requires { p < 4096 }
-    ensures { SteppedSDA t.now p starts.old sizes.old entries.old starts.new sizes.new entries.new result }
+    ensures { SteppedSDA t.now p tables.old tables.new result }
 {
-    let judged = sdas::judge_sda(t, starts);
-    if judged.number != 0 {
-        return bare(judged.number);
-    }
-    sdas::put_sda(t, p, judged, starts, sizes, entries);
-    Step {
-        number: 0,
-        head: 0,
+    let judged = sdas::judge_sda(t, tables)?;
+    sdas::put_sda(t, p, judged, tables);
+    Ok(Step {
         id: t[2],
-        at: p,
         count: judged.count,
-    }
+        row: None,
+    })
 }
 
-fn row_step(
-    t: &[u8],
-    p: usize,
-    last: bool,
-    starts: &[u16; 256],
-    sizes: &[u32; 256],
-    entries: &[u64; 256],
-) -> Step
-    requires { Agreeing starts.now sizes.now entries.now }
-    ensures { SteppedRow last t.now p starts.now sizes.now entries.now result }
+fn row_step(t: &[u8], p: usize, last: bool, tables: &Tables) -> Result<Step, Reason>
+    ensures { SteppedRow last t.now p tables.now result }
 {
-    let judged = triplets::judge_row(t, last, starts, sizes, entries);
-    if judged.number != 0 {
-        return bare(judged.number);
-    }
-    let head = t[1];
-    let id = t[2];
-    Step {
-        number: 0,
-        head: head,
-        id: id,
-        at: p,
-        count: judged.count,
-    }
+    let count = triplets::judge_row(t, last, tables)?;
+    Ok(Step {
+        id: t[2],
+        count,
+        row: Some(Row { head: t[1], at: p }),
+    })
 }
 
-fn cpt_step(
-    t: &[u8],
-    last: bool,
-    starts: &[u16; 256],
-    sizes: &[u32; 256],
-    entries: &[u64; 256],
-    x: Step,
-) -> Step
-    requires { Agreeing starts.now sizes.now entries.now × (x.count ≤ 4096) }
-    ensures { SteppedCPT last t.now starts.now sizes.now entries.now x result }
+#[tactic(auto, unfolding(fdoca::specs::Check::check_cpt))]
+fn cpt_step(t: &[u8], last: bool, tables: &Tables, x: Option<Step>) -> Result<Step, Reason>
+    requires { IfSome x (λ x. x.count ≤ 4096) }
+    ensures { SteppedCPT last t.now tables.now x result }
 {
-    if x.head == 0 {
-        return bare(4);
-    }
-    let judged = triplets::judge_cpt(t, x.head, last, starts, sizes, entries, x.count);
-    if judged.number != 0 {
-        return bare(judged.number);
-    }
-    Step {
-        number: 0,
-        head: x.head,
-        id: x.id,
-        at: x.at,
-        count: judged.count,
-    }
-}
-
-// Whether a construct type is that of an RLO or a GDA.
-fn has_groups(kind: u8) -> bool
-    ensures { result ≡ with_groups kind }
-{
-    if kind == RLO {
-        return true;
-    }
-    kind == GDA
+    let step = x.ok_or(Reason::OutOfSequence)?;
+    let row = step.row.ok_or(Reason::OutOfSequence)?;
+    let count = triplets::judge_cpt(t, row.head, last, tables, step.count)?;
+    Ok(Step { count, ..step })
 }
 
 // The step over the triplet at p, x being the step before.
 fn advance(
     desc: &[u8],
-    starts: &mut [u16; 256],
-    sizes: &mut [u32; 256],
-    entries: &mut [u64; 256],
+    tables: &mut Tables,
     p: usize,
-    x: Step,
-) -> Step
-    requires { Held desc.now starts.old sizes.old entries.old p x × (p < length desc.now) × (length desc.now ≤ 4096) }
-    ensures { Advanced desc.now starts.new sizes.new entries.new p result }
+    x: Option<Step>,
+) -> Result<Option<Step>, Reason>
+    requires { Held desc.now tables.old p x × (p < length desc.now) × (length desc.now ≤ 4096) }
+    ensures { Advanced desc.now tables.new p result }
 {
-    let n = numbers::wide(desc[p]);
-    if n < 2 {
-        return bare(2);
-    }
-    if desc.len() - p < n {
-        return bare(2);
+    let n = usize::from(desc[p]);
+    if n < 2 || desc.len() - p < n {
+        return Err(Reason::TornTriplet);
     }
     let end = p + n;
     let t = &desc[p..end];
+    let last = end == desc.len();
     let kind = t[1];
     if kind == CPT {
-        return cpt_step(t, end == desc.len(), starts, sizes, entries, x);
+        return Ok(Some(cpt_step(t, last, tables, x)?));
     }
-    close(desc, starts, sizes, entries, p, x);
-    if kind == SDA {
-        return sda_step(t, p, starts, sizes, entries);
-    }
-    if has_groups(kind) {
-        return row_step(t, p, end == desc.len(), starts, sizes, entries);
-    }
-    if kind == ISD {
-        return bare(triplets::judge_isd(t, p));
-    }
-    bare(3)
-}
-
-fn answer(number: u32, place: u32, items: u32, id: u8, rows: bool) -> Examined
-    ensures { result ≡ record { number = number; place = place; items = items; id = id; rows = rows } }
-{
-    Examined {
-        number: number,
-        place: place,
-        items: items,
-        id: id,
-        rows: rows,
+    close(desc, tables, p, x);
+    match kind {
+        SDA => Ok(Some(sda_step(t, p, tables)?)),
+        RLO | GDA => Ok(Some(row_step(t, p, last, tables)?)),
+        ISD => {
+            triplets::judge_isd(t, p)?;
+            Ok(None)
+        }
+        _ => Err(Reason::UnknownConstruct),
     }
 }
 
-// Whether a descriptor has rows to the end (document 02, Q-5): its last group, of an RLO, has repetition 0. `head` is the construct type of the row
-// that its last triplet belongs to, or 0.
-fn to_the_end(desc: &[u8], head: u8) -> bool
+// Whether a descriptor has rows to the end (document 02, Q-5): its last group, of an RLO, has repetition 0. `row` is the row that its last triplet
+// belongs to, if there is one.
+fn to_the_end(desc: &[u8], row: Option<Row>) -> bool
     requires { 0 < length desc.now }
-    ensures { result ≡ to_the_end head (last_byte desc.now) }
+    ensures { result ≡ to_the_end row (last_byte desc.now) }
 {
-    if head == 0 {
-        return false;
+    match row {
+        Some(row) => row.head != GDA && desc[desc.len() - 1] == 0,
+        None => false,
     }
-    if head == GDA {
-        return false;
-    }
-    desc[desc.len() - 1] == 0
 }
 
 // Whether there are rows to the end, and these take no data.
-fn takes_nothing(desc: &[u8], starts: &[u16; 256], entries: &[u64; 256], head: u8) -> bool
-    requires { Repeating desc.now starts.now entries.now head }
-    ensures { result ≡ (to_the_end head (last_byte desc.now) && endless (pass_list desc.now (length desc.now - 3))) }
+fn takes_nothing(desc: &[u8], tables: &Tables, row: Option<Row>) -> bool
+    requires { Repeating desc.now tables.now row }
+    ensures { result ≡ (to_the_end row (last_byte desc.now) && endless (pass_list desc.now (length desc.now - 3))) }
 {
-    if !to_the_end(desc, head) {
-        return false;
-    }
-    rows::endless(desc, starts, entries, desc.len() - 3)
+    to_the_end(desc, row) && rows::endless(desc, tables, desc.len() - 3)
 }
 
-// Examines a descriptor: the check's answer; for an accepted one the tables are then filled for whoever writes its plan. q is the place of the
-// triplet before p.
-pub fn examine(
-    desc: &[u8],
-    starts: &mut [u16; 256],
-    sizes: &mut [u32; 256],
-    entries: &mut [u64; 256],
-) -> Examined
-    requires { (starts.old ≡ replicate 256 65535) × (sizes.old ≡ replicate 256 0) × (entries.old ≡ replicate 256 0) }
-    ensures { Examination desc.now starts.new sizes.new entries.new result }
+// A refusal at a place of the descriptor.
+fn refusal(reason: Reason, place: usize) -> Refusal
+    requires { place < 4294967296 }
+    ensures { result ≡ record { reason = reason; place = place } }
 {
-    if 4096 < desc.len() {
-        return answer(1, 0, 0, 0, false);
+    Refusal {
+        reason,
+        place: place as u32,
     }
-    let mut q = 0;
+}
+
+// Examines a descriptor: the check's answer; for an accepted one the tables are then filled for whoever writes its plan. `last` is the place of the
+// triplet before p. The triplets tell their own lengths, so that no iterator of std goes over them.
+pub fn examine(desc: &[u8], tables: &mut Tables) -> Result<Examined, Refusal>
+    requires { (tables.old.starts ≡ replicate 256 65535) × (tables.old.sizes ≡ replicate 256 0) × (tables.old.entries ≡ replicate 256 0) }
+    ensures { Examination desc.now tables.new.starts tables.new.sizes tables.new.entries result }
+{
+    if MOST_BYTES < desc.len() {
+        return Err(refusal(Reason::Oversize, 0));
+    }
+    let mut last = 0;
     let mut p = 0;
-    let mut x = bare(0);
+    let mut x = None;
     while p < desc.len() {
-        x = advance(desc, starts, sizes, entries, p, x);
-        if x.number != 0 {
-            return answer(x.number as u32, p as u32, 0, 0, false);
-        }
-        q = p;
-        p += numbers::wide(desc[p]);
+        x = advance(desc, tables, p, x).map_err(|reason| refusal(reason, p))?;
+        last = p;
+        p += usize::from(desc[p]);
     }
-    if x.id == 0 {
-        return answer(11, p as u32, 0, 0, false);
+    let Some(step) = x else {
+        return Err(refusal(Reason::NothingDescribed, p));
+    };
+    close(desc, tables, p, x);
+    if takes_nothing(desc, tables, step.row) {
+        return Err(refusal(Reason::Endless, last));
     }
-    close(desc, starts, sizes, entries, p, x);
-    if takes_nothing(desc, starts, entries, x.head) {
-        return answer(22, q as u32, 0, 0, false);
-    }
-    let rows = to_the_end(desc, x.head);
-    answer(0, 0, x.count as u32, x.id, rows)
+    let rows = to_the_end(desc, step.row);
+    Ok(Examined {
+        items: step.count as u32,
+        id: step.id,
+        rows,
+    })
 }
 
 // Checks a descriptor: how many items it describes, or the first reason to refuse it.
-pub fn check(descriptor: &[u8]) -> Checked
-    ensures { result ≡ checked (check descriptor.now) }
+pub fn check(descriptor: &[u8]) -> Result<u32, Refusal>
+    ensures { result ≡ returned (check descriptor.now) }
 {
-    let mut starts = [sdas::NOWHERE; 256];
-    let mut sizes = [0u32; 256];
-    let mut entries = [0u64; 256];
-    let r = examine(descriptor, &mut starts, &mut sizes, &mut entries);
-    Checked {
-        number: r.number,
-        place: r.place,
-        items: r.items,
-    }
+    let mut tables = Tables::new();
+    let examined = examine(descriptor, &mut tables)?;
+    Ok(examined.items)
 }

@@ -6,7 +6,7 @@
 -- For a descriptor with rows to the end (document 02, Q-5), `repeated d ≡ some rows`, a second set of statements says this of the fields before the rows
 -- and some number of whole passes; the first set is for all others, `repeated d ≡ none`.
 -- Assumes nothing.
-use Rattle.std.specs.Prelude.{if◌then◌else◌}
+use Rattle.std.specs.Prelude.{if◌then◌else◌, Ok}
 use mathlib.Core.Path.{◌≡◌, refl, sym, ap, ◌∙◌}
 use mathlib.Core.Logic.{◌↔◌, inr}
 use Prim.Native.Nat.{ℕ, suc, ◌+◌, ◌*◌, ◌/◌, ◌^◌, ◌≤◌, ◌<◌}
@@ -29,10 +29,12 @@ use Rattle.fdoca.specs.Unfolding.{fields_added, field_of, unfolded, repeated}
 use Rattle.fdoca.specs.Unfolding as U
 use Rattle.fdoca.specs.Account.{NonZero, Item, Parts, Block, Packed}
 use Rattle.fdoca.specs.Calls as calls
-use Rattle.fdoca.specs.Calls.{max_data, oversize, item_list, small, list, item_at, value_of, whole_of, whole_number, packed, checked, listed, entries_after, state_of, lent, whole_answer, decimal_answer, Reading, whole, float, reading_of, ordered, signed, read_by, value_answer}
+use Rattle.fdoca.specs.Calls.{max_data, oversize, item_list, small, list, item_at, value_of, whole_of, whole_number, packed, entries_after, state_by, state_of, lent, number_given, Reading, whole, float, reading_of, ordered, signed, read_by}
+use Rattle.fdoca.specs.Returned.{returned, answer}
 use Rattle.fdoca.specs.Packed.{packed_number}
 use Rattle.fdoca.specs.Float as float_specs
 use Rattle.fdoca.specs.Float.{Number, Equal, Format, long_binary, characteristic, float_of}
+use Rattle.fdoca.specs.declared.State.{State}
 use Rattle.fdoca.specs.declared.Value.{Value}
 use Rattle.fdoca.specs.declared.Value.TheVariants.{Null, Whole, Real}
 use Rattle.fdoca.specs.Reasons.{byte, OneOf, F, Suits, Allowed, Means, BadIndicator, OfItems, with_passes, OfRows, Uses, Unfolds, as_it_is, and_passes, OfDescriptor, OfList, OfState, OfWholeNumber, OfPacked, OfValue, file_descriptor, file_data, OfFile, First, None}
@@ -64,7 +66,7 @@ use Rattle.fdoca.proofs.Floats.{only_canonical}
 use Rattle.fdoca.proofs.FloatForms.{float_is, is_float, bits_back}
 use Rattle.fdoca.proofs.ValueRows.{value_told, reading_fixed, float_length}
 use Rattle.fdoca.proofs.FileRows.{file_notes, file_text, file_told, file_listed}
-use Rattle.fdoca.proofs.Numbers.{descriptor_number, list_number, state_number, whole_number_lem, packed_number_lem, value_number, number_of, number_0}
+use Rattle.fdoca.proofs.Numbers.{descriptor_number, list_number, state_number, whole_number_lem, packed_number_lem, value_number, number_0, told_again, item_reason}
 
 -- DEMAND 1
 
@@ -127,48 +129,43 @@ module _ (d s : List ℕ) (k : ℕ) where
   pub value_accepts : ((v : Value) × (calls.value d s k ≡ ok v)) ↔ None (OfValue d s k)
   value_accepts = accepted_none (calls.value d s k) (value_told d s k)
 
--- A refusal's number is never 0: an answer has the number 0 exactly where the call accepts.
-pub check_number_0 : (d : List ℕ) → ((checked (check d)).number ≡ 0) ↔ None (OfDescriptor d)
-check_number_0 d = rw (same (check d)) (number_0 (check_told d) (λ t m p r. descriptor_number r))
-  where
-    same : (x : Result ℕ) → (checked x).number ≡ number_of x
-    same (refuse m p) = refl
-    same (ok a) = refl
+-- A refusal's number is never 0: a call's number is 0 exactly where it accepts;
+pub check_number_0 : (d : List ℕ) → (number_given (check d) ≡ 0) ↔ None (OfDescriptor d)
+check_number_0 d = number_0 (λ t m p r. descriptor_number r) (check_told d)
 
-pub list_number_0 : (d s old : List ℕ) → ((listed (list d s old)).number ≡ 0) ↔ None (OfList d s (length old))
-list_number_0 d s old = rw (same (list d s old)) (number_0 (list_told d s old) (λ t m p r. list_number r))
-  where
-    same : (x : Result (List ℕ)) → (listed x).number ≡ number_of x
-    same (refuse m p) = refl
-    same (ok a) = refl
+pub list_number_0 : (d s old : List ℕ) → (number_given (list d s old) ≡ 0) ↔ None (OfList d s (length old))
+list_number_0 d s old = number_0 (λ t m p r. list_number r) (list_told d s old)
 
-pub state_number_0 : (d s : List ℕ) (k : ℕ) → ((state_of (item_at d s k)).number ≡ 0) ↔ None (OfState d s k)
-state_number_0 d s k = rw (same (item_at d s k)) (number_0 (state_told d s k) (λ t m p r. state_number r))
-  where
-    same : (x : Result Note) → (state_of x).number ≡ number_of x
-    same (refuse m p) = refl
-    same (ok a) = refl
+pub state_number_0 : (d s : List ℕ) (k : ℕ) → (number_given (item_at d s k) ≡ 0) ↔ None (OfState d s k)
+state_number_0 d s k = number_0 (λ t m p r. state_number r) (state_told d s k)
 
-pub whole_number_0 : (d s : List ℕ) (k : ℕ) → ((whole_answer (whole_number d s k)).number ≡ 0) ↔ None (OfWholeNumber d s k)
-whole_number_0 d s k = rw (same (whole_number d s k)) (number_0 (whole_told d s k) (λ t m p r. whole_number_lem r))
-  where
-    same : (x : Result (Bool × ℤ)) → (whole_answer x).number ≡ number_of x
-    same (refuse m p) = refl
-    same (ok a) = refl
+pub whole_number_0 : (d s : List ℕ) (k : ℕ) → (number_given (whole_number d s k) ≡ 0) ↔ None (OfWholeNumber d s k)
+whole_number_0 d s k = number_0 (λ t m p r. whole_number_lem r) (whole_told d s k)
 
-pub packed_number_0 : (d s : List ℕ) (k : ℕ) → ((decimal_answer (packed d s k)).number ≡ 0) ↔ None (OfPacked d s k)
-packed_number_0 d s k = rw (same (packed d s k)) (number_0 (packed_told d s k) (λ t m p r. packed_number_lem r))
-  where
-    same : (x : Result (Bool × ℤ × ℕ)) → (decimal_answer x).number ≡ number_of x
-    same (refuse m p) = refl
-    same (ok a) = refl
+pub packed_number_0 : (d s : List ℕ) (k : ℕ) → (number_given (packed d s k) ≡ 0) ↔ None (OfPacked d s k)
+packed_number_0 d s k = number_0 (λ t m p r. packed_number_lem r) (packed_told d s k)
 
-pub value_number_0 : (d s : List ℕ) (k : ℕ) → ((value_answer (calls.value d s k)).number ≡ 0) ↔ None (OfValue d s k)
-value_number_0 d s k = rw (same (calls.value d s k)) (number_0 (value_told d s k) (λ t m p r. value_number r))
-  where
-    same : (x : Result Value) → (value_answer x).number ≡ number_of x
-    same (refuse m p) = refl
-    same (ok a) = refl
+pub value_number_0 : (d s : List ℕ) (k : ℕ) → (number_given (calls.value d s k) ≡ 0) ↔ None (OfValue d s k)
+value_number_0 d s k = number_0 (λ t m p r. value_number r) (value_told d s k)
+
+-- and it is the number of a reason, so that what a call returns says which refusal it is.
+pub check_returned : (d : List ℕ) → answer (returned (check d)) ≡ check d
+check_returned d = told_again (λ t m p r. descriptor_number r) (check_told d)
+
+pub list_returned : (d s old : List ℕ) → answer (returned (list d s old)) ≡ list d s old
+list_returned d s old = told_again (λ t m p r. list_number r) (list_told d s old)
+
+pub state_returned : (d s : List ℕ) (k : ℕ) → answer (returned (item_at d s k)) ≡ item_at d s k
+state_returned d s k = told_again (λ t m p r. state_number r) (state_told d s k)
+
+pub whole_returned : (d s : List ℕ) (k : ℕ) → answer (returned (whole_number d s k)) ≡ whole_number d s k
+whole_returned d s k = told_again (λ t m p r. whole_number_lem r) (whole_told d s k)
+
+pub packed_returned : (d s : List ℕ) (k : ℕ) → answer (returned (packed d s k)) ≡ packed d s k
+packed_returned d s k = told_again (λ t m p r. packed_number_lem r) (packed_told d s k)
+
+pub value_returned : (d s : List ℕ) (k : ℕ) → answer (returned (calls.value d s k)) ≡ calls.value d s k
+value_returned d s k = told_again (λ t m p r. value_number r) (value_told d s k)
 
 -- The dump program prints the refusal of its file's first reason, 19 among them, or else the items of the file's block.
 module _ (f : List ℕ) where
@@ -215,6 +212,10 @@ module _ (d s : List ℕ) (ns : List Note) (e : walk (unfolded d) s ≡ ok ns) w
   pub byte_in_no_other : (b j k : ℕ) → InItem ns b j → InItem ns b k → j ≡ k
   byte_in_no_other b j k x y = in_one_item (unfolded d) s ns e b j k x y
 
+-- the state of an item that is refused
+state_refused : (d s : List ℕ) (k m p : ℕ) → item_at d s k ≡ refuse m p → answer (state_of (item_at d s k)) ≡ refuse m p
+state_refused d s k m p e = rw e (ap (λ n. refuse n p) (item_reason d s k m p e))
+
 -- An accepted descriptor, and data within its limit.
 module _ (d s : List ℕ) (n : ℕ) (accepts : check d ≡ ok n) (few : length s ≤ 32768) where
   no_oversize : oversize d s ≡ false
@@ -233,12 +234,12 @@ module _ (d s : List ℕ) (n : ℕ) (accepts : check d ≡ ok n) (few : length s
 
   -- what the state call says where the walk stops, and where it does not
   states_stop_by : (m p : ℕ) → walk_by (unfolded d) (repeated d) s ≡ refuse m p → (k : ℕ)
-      → (state_of (item_at d s k) ≡ record { number = m; place = p; null = false; code = 0; lead = 0; value = 0; spare = 0 }) × (lent s (item_at d s k) ≡ [])
-  states_stop_by m p e k = (rw (item_walks k, e), rw (item_walks k, e))
+      → (answer (state_of (item_at d s k)) ≡ refuse m p) × (lent s (item_at d s k) ≡ [])
+  states_stop_by m p e k = let q : item_at d s k ≡ refuse m p = rw (item_walks k, e) in (state_refused d s k m p q, rw q)
 
   state_holds_by : (ns : List Note) → walk_by (unfolded d) (repeated d) s ≡ ok ns → (k : ℕ) → k < length ns
       → (i : Note) × (get_elem? ns k ≡ some i)
-      × (state_of (item_at d s k) ≡ record { number = 0; place = 0; null = i.is_null; code = i.field.code; lead = i.lead; value = i.value; spare = i.spare })
+      × (state_of (item_at d s k) ≡ Ok (record { null = i.is_null; code = i.field.code; lead = i.lead; value = i.value; spare = i.spare }))
       × (lent s (item_at d s k) ≡ value_of s i)
   state_holds_by ns e k h = let q = there ns k h in (q.0, q.1, rw (item_walks k, e, q.1), rw (item_walks k, e, q.1))
 
@@ -249,8 +250,8 @@ module _ (d s : List ℕ) (n : ℕ) (accepts : check d ≡ ok n) (few : length s
   reads_stop m p e k = (rw (item_walks k, e), rw (item_walks k, e), rw (item_walks k, e))
 
   no_more_states_by : (ns : List Note) → walk_by (unfolded d) (repeated d) s ≡ ok ns → (k : ℕ) → length ns ≤ k
-      → (state_of (item_at d s k) ≡ record { number = 17; place = 0; null = false; code = 0; lead = 0; value = 0; spare = 0 }) × (lent s (item_at d s k) ≡ [])
-  no_more_states_by ns e k h = let q = past_end ns k h in (rw (item_walks k, e, q), rw (item_walks k, e, q))
+      → (answer (state_of (item_at d s k)) ≡ refuse 17 0) × (lent s (item_at d s k) ≡ [])
+  no_more_states_by ns e k h = let q : item_at d s k ≡ refuse 17 0 = rw (item_walks k, e, past_end ns k h) in (state_refused d s k 17 0 q, rw q)
 
   -- WITHOUT ROWS TO THE END
   module _ (plain : repeated d ≡ none) where
@@ -272,7 +273,7 @@ module _ (d s : List ℕ) (n : ℕ) (accepts : check d ≡ ok n) (few : length s
       pub list_stops : (old : List ℕ) → 2 + 2 * n ≤ length old → (list d s old ≡ refuse m p) × (entries_after old (list d s old) ≡ old)
       list_stops old room = (rw (list_walks old room, e), rw (list_walks old room, e))
 
-      pub states_stop : (k : ℕ) → (state_of (item_at d s k) ≡ record { number = m; place = p; null = false; code = 0; lead = 0; value = 0; spare = 0 }) × (lent s (item_at d s k) ≡ [])
+      pub states_stop : (k : ℕ) → (answer (state_of (item_at d s k)) ≡ refuse m p) × (lent s (item_at d s k) ≡ [])
       states_stop k = states_stop_by m p (walks_unfolding ∙ e) k
 
     module _ (ns : List Note) (e : walk (unfolded d) s ≡ ok ns) where
@@ -283,13 +284,13 @@ module _ (d s : List ℕ) (n : ℕ) (accepts : check d ≡ ok n) (few : length s
       -- the state of item k below n is what was noted for field k, and its part is lent,
       pub state_holds : (k : ℕ) → k < n
           → (i : Note) × (get_elem? ns k ≡ some i)
-          × (state_of (item_at d s k) ≡ record { number = 0; place = 0; null = i.is_null; code = i.field.code; lead = i.lead; value = i.value; spare = i.spare })
+          × (state_of (item_at d s k) ≡ Ok (record { null = i.is_null; code = i.field.code; lead = i.lead; value = i.value; spare = i.spare }))
           × (lent s (item_at d s k) ≡ value_of s i)
       state_holds k h = state_holds_by ns (walks_unfolding ∙ e) k (omega (arith, items_noted d s n ns accepts e))
 
       -- and from n on there is no such item.
       pub no_more_states : (k : ℕ) → n ≤ k
-          → (state_of (item_at d s k) ≡ record { number = 17; place = 0; null = false; code = 0; lead = 0; value = 0; spare = 0 }) × (lent s (item_at d s k) ≡ [])
+          → (answer (state_of (item_at d s k)) ≡ refuse 17 0) × (lent s (item_at d s k) ≡ [])
       no_more_states k h = no_more_states_by ns (walks_unfolding ∙ e) k (omega (arith, items_noted d s n ns accepts e))
 
   -- WITH ROWS TO THE END
@@ -315,7 +316,7 @@ module _ (d s : List ℕ) (n : ℕ) (accepts : check d ≡ ok n) (few : length s
       pub rows_list_stops : (old : List ℕ) → (list d s old ≡ refuse m p) × (entries_after old (list d s old) ≡ old)
       rows_list_stops old = (rw (list_walks_rows old, e), rw (list_walks_rows old, e))
 
-      pub rows_states_stop : (k : ℕ) → (state_of (item_at d s k) ≡ record { number = m; place = p; null = false; code = 0; lead = 0; value = 0; spare = 0 }) × (lent s (item_at d s k) ≡ [])
+      pub rows_states_stop : (k : ℕ) → (answer (state_of (item_at d s k)) ≡ refuse m p) × (lent s (item_at d s k) ≡ [])
       rows_states_stop k = states_stop_by m p (walks_rows ∙ e) k
 
     module _ (ns : List Note) (e : walk_rows (unfolded d) rows s ≡ ok ns) where
@@ -357,29 +358,29 @@ module _ (d s : List ℕ) (n : ℕ) (accepts : check d ≡ ok n) (few : length s
       -- the state of each is what was noted of it, and its part is lent, and behind them there is no item.
       pub rows_state_holds : (k : ℕ) → k < length ns
           → (i : Note) × (get_elem? ns k ≡ some i)
-          × (state_of (item_at d s k) ≡ record { number = 0; place = 0; null = i.is_null; code = i.field.code; lead = i.lead; value = i.value; spare = i.spare })
+          × (state_of (item_at d s k) ≡ Ok (record { null = i.is_null; code = i.field.code; lead = i.lead; value = i.value; spare = i.spare }))
           × (lent s (item_at d s k) ≡ value_of s i)
       rows_state_holds k h = state_holds_by ns (walks_rows ∙ e) k h
 
       pub no_more_rows : (k : ℕ) → length ns ≤ k
-          → (state_of (item_at d s k) ≡ record { number = 17; place = 0; null = false; code = 0; lead = 0; value = 0; spare = 0 }) × (lent s (item_at d s k) ≡ [])
+          → (answer (state_of (item_at d s k)) ≡ refuse 17 0) × (lent s (item_at d s k) ≡ [])
       no_more_rows k h = no_more_states_by ns (walks_rows ∙ e) k h
 
 -- THE THREE PARTS OF AN ITEM (Q-6)
 
 null_state : (i : Note) → i.is_null ≡ true → i.lead ≡ 1 → i.value ≡ 0 → i.spare ≡ 0
-    → state_of (ok i) ≡ record { number = 0; place = 0; null = true; code = i.field.code; lead = 1; value = 0; spare = 0 }
+    → state_by i ≡ record { null = true; code = i.field.code; lead = 1; value = 0; spare = 0 }
 null_state i n a b c = rw (n, a, b, c)
 
 -- Of each item of the list, the three lengths that its state has add up to the item's length, from its start to where the list has its end.
 pub three_add_up : (d s old new : List ℕ) → list d s old ≡ ok new → (k : ℕ) → k < get_or new 0 0
-    → get_or new (2 + k) 0 + ((state_of (item_at d s k)).lead + (state_of (item_at d s k)).value + (state_of (item_at d s k)).spare) ≡ end_listed new k
-three_add_up d s old new e k h = let (i, a, b) = listed_item d s old new e k h in rw a b
+    → (u : State) × (state_of (item_at d s k) ≡ Ok u) × (get_or new (2 + k) 0 + (u.lead + u.value + u.spare) ≡ end_listed new k)
+three_add_up d s old new e k h = let (i, a, b) = listed_item d s old new e k h in (state_by i, rw a, b)
 
 module _ (d s : List ℕ) (k : ℕ) where
-  -- A refusal has three zeros.
-  pub refused_zeros : (m p : ℕ) → item_at d s k ≡ refuse m p → state_of (item_at d s k) ≡ record { number = m; place = p; null = false; code = 0; lead = 0; value = 0; spare = 0 }
-  refused_zeros m p e = rw e
+  -- A refused item has no state.
+  pub refused_state : (m p : ℕ) → item_at d s k ≡ refuse m p → answer (state_of (item_at d s k)) ≡ refuse m p
+  refused_state m p e = state_refused d s k m p e
 
   module _ (i : Note) (e : item_at d s k ≡ ok i) where
     -- The parts of the data that have these lengths, one behind the other from the item's start on, are those of the standard's account, for every type;
@@ -394,23 +395,25 @@ module _ (d s : List ℕ) (k : ℕ) where
     lent_is_value = rw e
 
     -- a null is all lead;
-    pub null_all_lead : (state_of (item_at d s k)).null ≡ true
-        → state_of (item_at d s k) ≡ record { number = 0; place = 0; null = true; code = i.field.code; lead = 1; value = 0; spare = 0 }
-    null_all_lead n =
-        let m : i.is_null ≡ true = rw e at n in
+    pub null_all_lead : (u : State) → state_of (item_at d s k) ≡ Ok u → u.null ≡ true → u ≡ record { null = true; code = i.field.code; lead = 1; value = 0; spare = 0 }
+    null_all_lead u o n =
+        let v = rw e at o in
+        let w : state_by i ≡ u = cc in
+        let m : i.is_null ≡ true = rw (← w) at n in
         let (a, b, c) = null_lengths d s k i e m in
-        ap state_of e ∙ null_state i m a b c
+        sym w ∙ null_state i m a b c
 
     -- and of a value of X'03' the terminator belongs to what follows: the value has no zero byte, and what follows it begins with one.
-    pub terminator_in_spare : type_of (state_of (item_at d s k)).code ≡ some terminated_bytes → (state_of (item_at d s k)).null ≡ false
-        → (rest : List ℕ) × (part_bytes s i spare ≡ 0 ∷ rest) × NonZero (lent s (item_at d s k)) × ((state_of (item_at d s k)).spare ≡ 1 + length rest)
-    terminator_in_spare t n =
-        let typed : type_of i.field.code ≡ some terminated_bytes = rw e at t in
+    pub terminator_in_spare : (u : State) → state_of (item_at d s k) ≡ Ok u → type_of u.code ≡ some terminated_bytes → u.null ≡ false
+        → (rest : List ℕ) × (part_bytes s i spare ≡ 0 ∷ rest) × NonZero (lent s (item_at d s k)) × (u.spare ≡ 1 + length rest)
+    terminator_in_spare u o t n =
+        let v = rw e at o in
+        let w : state_by i ≡ u = cc in
+        let typed : type_of i.field.code ≡ some terminated_bytes = rw (← w) at t in
         let own = (item_good d s k i e).field_good.typed in
         let q : i.field.type ≡ terminated_bytes = cc in
-        let (rest, a, b) = ended_parts d s k i e q (rw e at n) in
-        let long : i.spare ≡ 1 + length rest = omega (arith, part_long d s k i e spare, ap length a) in
-        (rest, a, rw e b, rw e long)
+        let (rest, a, b) = ended_parts d s k i e q (rw (← w) at n) in
+        (rest, a, rw e b, omega (arith, part_long d s k i e spare, ap length a, ap (λ (v : State). v.spare) w))
 
 -- The three parts of all items, in order, are the block's bytes,
 module _ (d s : List ℕ) (n : ℕ) (accepts : check d ≡ ok n) (ns : List Note) (e : walk_by (unfolded d) (repeated d) s ≡ ok ns) where
@@ -591,7 +594,7 @@ module _ (d s : List ℕ) (n : ℕ) (accepts : check d ≡ ok n) (few : length s
 
     -- Item k has the null mark, the value and the length of its part, the type code of its field, and the whole number that the type reads from the
     -- value; 18 stands at its start, behind the parts before it.
-    pub read_as_accounted : (state_of (item_at d s k) ≡ record { number = 0; place = 0; null = x.is_null; code = f.code; lead = length x.lead; value = length x.value; spare = length x.spare })
+    pub read_as_accounted : (state_of (item_at d s k) ≡ Ok (record { null = x.is_null; code = f.code; lead = length x.lead; value = length x.value; spare = length x.spare }))
         × (lent s (item_at d s k) ≡ x.value)
         × (whole_number d s k ≡ (the (whole_of f.type x.value) 18 (start_of xs k) >>= (λ z. ok (x.is_null, if x.is_null then pos 0 else z))))
     unfolding whole_number

@@ -1,4 +1,5 @@
 pub mod Tests
+pub mod Returned
 pub mod Table
 pub mod Results
 pub mod Everything

@@ -1,17 +1,16 @@
 -- What the calls give (document 01, "What the reader carries", "Numbers a caller can meet", "The item list and the dump program"; document 02, Q-1, Q-5,
 -- Q-6 and Q-7).
 use Rattle.std.specs.Prelude.{ℕ, ◌+◌, ◌*◌, ◌^◌, Bool, true, false, ◌&&◌, ◌||◌, not, List, [], ◌∷◌, ◌++◌, map, reverse, ltb, eqb, Float, ℤ, pos, ◌-ℤ◌, length, take, drop, if◌then◌else◌}
+use Rattle.std.specs.Prelude as code
 use Rattle.std.proofs.Math.Option.{Option, none, some}
 use Rattle.std.proofs.Math.ListN.{get_elem?}
-use Rattle.fdoca.specs.declared.Checked.{Checked}
-use Rattle.fdoca.specs.declared.Listed.{Listed}
+use Rattle.fdoca.specs.declared.Refusal.{Refusal}
 use Rattle.fdoca.specs.declared.State.{State}
-use Rattle.fdoca.specs.declared.Whole as w
 use Rattle.fdoca.specs.declared.Decimal.{Decimal}
 use Rattle.fdoca.specs.declared.Value.{Value}
 use Rattle.fdoca.specs.declared.Value.TheVariants.{Null, Whole, Real}
-use Rattle.fdoca.specs.declared.Valued.{Valued}
 use Rattle.fdoca.specs.Basics.{lookup, is_some, big, Result, refuse, ok, ◌>>=◌, ◌>>◌, reject, the}
+use Rattle.fdoca.specs.Returned.{returned}
 use Rattle.fdoca.specs.FieldType.{FieldType, fixed_bytes, variable_bytes, terminated_bytes, short_bytes, integer, reversed_integer, packed_decimal, hex_float, reversed_float, binary_float, Size, bytes, digits}
 use Rattle.fdoca.specs.Walk.{Note, walk_by}
 use Rattle.fdoca.specs.Check.{check, max_descriptor}
@@ -136,39 +135,42 @@ value d s k = do
   r ← the (reading_of i.field) 18 i.start
   the (if i.is_null then some Null else read_by r (value_of s i)) 23 i.start
 
--- The answers: an accepted call gives number 0 and place 0, a refusal zeros and no null mark.
-abbrev pub checked : Result ℕ → Checked
-checked (refuse n p) = record { number = n; place = p; items = 0 }
-checked (ok n) = record { number = 0; place = 0; items = n }
-
--- The list call's answer, and every entry of the caller's list afterwards: on a refusal the list is as before.
-abbrev pub listed : Result (List ℕ) → Listed
-listed (refuse n p) = record { number = n; place = p }
-listed (ok l) = record { number = 0; place = 0 }
+-- The answers: what an accepted call returns, or its refusal (Returned). The list call returns nothing but writes its list: on a refusal it is as before.
+abbrev pub listed : Result (List ℕ) → code.Result (Unit {0}) Refusal
+listed x = returned (x >>= λ l. ok tt)
 
 abbrev pub entries_after : List ℕ → Result (List ℕ) → List ℕ
 entries_after old (refuse n p) = old
 entries_after old (ok l) = l
 
--- The state of an item: the three lengths that measuring it states (Q-6); a refusal gives three zeros.
-abbrev pub state_of : Result Note → State
-state_of (refuse n p) = record { number = n; place = p; null = false; code = 0; lead = 0; value = 0; spare = 0 }
-state_of (ok i) = record { number = 0; place = 0; null = i.is_null; code = i.field.code; lead = i.lead; value = i.value; spare = i.spare }
+-- The state of an item: the three lengths that measuring it states (Q-6).
+abbrev pub state_by : Note → State
+state_by i = record { null = i.is_null; code = i.field.code; lead = i.lead; value = i.value; spare = i.spare }
+
+abbrev pub state_of : Result Note → code.Result State Refusal
+state_of x = returned (x >>= λ i. ok (state_by i))
 
 -- The lent part's bytes: none on a null or a refusal. Where an empty part lies 01 leaves free, and the contract of the call says it.
 abbrev pub lent : List ℕ → Result Note → List ℕ
 lent s (refuse n p) = []
 lent s (ok i) = value_of s i
 
-abbrev pub whole_answer : Result (Bool × ℤ) → w.Whole
-whole_answer (refuse n p) = record { number = n; place = p; null = false; value = pos 0 }
-whole_answer (ok v) = record { number = 0; place = 0; null = v.0; value = v.1 }
+-- The number that a null has not.
+abbrev pub unless_null : Bool → ℤ → code.Option ℤ
+unless_null null z = if null then code.None else code.Some z
 
-abbrev pub decimal_answer : Result (Bool × ℤ × ℕ) → Decimal
-decimal_answer (refuse n p) = record { number = n; place = p; null = false; value = pos 0; fraction = 0 }
-decimal_answer (ok v) = record { number = 0; place = 0; null = v.0; value = v.1; fraction = v.2 }
+abbrev pub whole_answer : Result (Bool × ℤ) → code.Result (code.Option ℤ) Refusal
+whole_answer x = returned (x >>= λ v. ok (unless_null v.0 v.1))
 
--- A refusal of the value call gives the whole number 0.
-abbrev pub value_answer : Result Value → Valued
-value_answer (refuse n p) = record { number = n; place = p; value = Whole (pos 0) }
-value_answer (ok v) = record { number = 0; place = 0; value = v }
+abbrev pub decimal_answer : Result (Bool × ℤ × ℕ) → code.Result Decimal Refusal
+decimal_answer x = returned (x >>= λ v. ok (record { value = unless_null v.0 v.1; fraction = v.2 }))
+
+-- Programs in C are given the refusal's number and place, or zeros.
+module _ {A : Type 0} where
+  abbrev pub number_given : Result A → ℕ
+  number_given (refuse n p) = n
+  number_given (ok a) = 0
+
+  abbrev pub place_given : Result A → ℕ
+  place_given (refuse n p) = p
+  place_given (ok a) = 0

@@ -1,4 +1,5 @@
 pub mod Basics
+pub mod Returned
 pub mod FieldType
 pub mod Item
 pub mod Walk

@@ -1,28 +1,59 @@
 // The definitions of FD:OCA descriptors and data blocks stand in specs/, and theorems about them in proofs/. This file has the types
-// of what the calls answer. An accepted call has number 0 and place 0; a refusal has its number and place, and zeros.
+// of what the calls return: what they tell of an accepted input, or the refusal.
 
 #![tactic(auto)]
 
-// The check of a descriptor: how many items it describes.
-#[derive(Drop)]
-pub struct Checked {
-    pub number: u32,
-    pub place: u32,
-    pub items: u32,
+ghost use Rattle.std.specs.Prelude.{◌≡◌};
+ghost use Rattle.fdoca.specs.Returned.{number_of};
+
+// The reasons of refusals, each as its number in the table of numbers.
+#[derive(Clone, Copy, Debug, PartialEq, Eq)]
+pub enum Reason {
+    Oversize = 1,
+    TornTriplet = 2,
+    UnknownConstruct = 3,
+    OutOfSequence = 4,
+    BadLength = 5,
+    BadParameter = 6,
+    NameTaken = 7,
+    MissingReference = 8,
+    NotCarried = 9,
+    TooManyItems = 10,
+    NothingDescribed = 11,
+    SmallList = 12,
+    ShortData = 13,
+    BadCount = 14,
+    NoEnd = 15,
+    Surplus = 16,
+    NoSuchItem = 17,
+    WrongKind = 18,
+    BadFile = 19,
+    BadDigit = 20,
+    ColumnMisfit = 21,
+    Endless = 22,
+    NoExactFloat = 23,
+    BadIndicator = 24,
 }
 
-// The list call, which writes its results into the caller's list.
-#[derive(Drop)]
-pub struct Listed {
-    pub number: u32,
+impl Reason {
+    // The number that callers in C are given.
+    pub fn number(self) -> u32
+        ensures { result ≡ number_of self }
+    {
+        self as u32
+    }
+}
+
+// A refusal: its reason, and its place in the descriptor or the data.
+#[derive(Clone, Copy, Debug, PartialEq, Eq)]
+pub struct Refusal {
+    pub reason: Reason,
     pub place: u32,
 }
 
 // An item's state: its null mark and type code, and how many bytes precede its value, are its value, and follow it.
-#[derive(Drop)]
+#[derive(Clone, Copy, Debug, PartialEq, Eq)]
 pub struct State {
-    pub number: u32,
-    pub place: u32,
     pub null: bool,
     pub code: u8,
     pub lead: u32,
@@ -30,22 +61,10 @@ pub struct State {
     pub spare: u32,
 }
 
-// A whole-number item.
-#[derive(Drop)]
-pub struct Whole {
-    pub number: u32,
-    pub place: u32,
-    pub null: bool,
-    pub value: i64,
-}
-
-// A packed item: a whole number, of whose digits the last `fraction` stand behind the decimal point.
-#[derive(Drop)]
+// A packed item: a whole number, of whose digits the last `fraction` stand behind the decimal point, or null.
+#[derive(Clone, Copy, Debug, PartialEq, Eq)]
 pub struct Decimal {
-    pub number: u32,
-    pub place: u32,
-    pub null: bool,
-    pub value: i64,
+    pub value: Option<i64>,
     pub fraction: u8,
 }
 
@@ -55,12 +74,4 @@ pub enum Value {
     Null,
     Whole(i64),
     Real(f64),
-}
-
-// An item's value; a refusal has the whole number 0.
-#[derive(Drop)]
-pub struct Valued {
-    pub number: u32,
-    pub place: u32,
-    pub value: Value,
 }

@@ -1,164 +1,140 @@
--- The parameters that a type allows, by the numbers of its rule, the size that holds, and the ways through `shape_of` and `good_length`.
+-- The sizes that a type allows, the size that holds, and the ways through `shape_of` and `good_length`.
 -- Assumes nothing.
-use Rattle.std.specs.Prelude.{if◌then◌else◌}
+use Rattle.std.specs.Prelude.{if◌then◌else◌, unwrap_or, Option, None, Some}
+use mathlib.Core.Logic.{◌⊎◌, inl, inr}
 use mathlib.Core.Path.{◌≡◌, refl, sym, ◌∙◌, ap}
-use Prim.Native.Nat.{ℕ, ◌+◌, ◌*◌, ◌/◌, ◌%◌, ◌<◌, ◌≤◌, zero-le}
+use Prim.Native.Nat.{ℕ, ◌+◌, ◌*◌, ◌/◌, ◌%◌, ◌<◌, ◌≤◌}
 use native.Mathlib.Omega.{arith}
 use mathlib.Core.Bool.{Bool, true, false, ◌&&◌, and-false}
 use mathlib.Core.List.{List, [], ◌∷◌}
-use mathlib.Core.Option.{Option, none, some}
-use lib.Dec.{leb, ltb, eqb, lit≤}
+use mathlib.Core.Option.{none, some}
+use mathlib.Core.Option as defined_option
+use lib.Dec.{leb, eqb}
 use lib.ListN.{length, get_or}
 use borrow.Author.Tests.{lt-ltb, le-ltb, le-leb, lt-leb, eq-eqb, ne_eqb}
-use Rattle.fdoca.specs.Basics.{elem, big}
-use Rattle.fdoca.specs.FieldType.{FieldType, fixed_bytes, variable_bytes, terminated_bytes, short_bytes, integer, reversed_integer, packed_decimal, hex_float, reversed_float, binary_float, type_of, Layout, Size, bytes, Sizes, up_to, one_of, digits_up_to, size_of, allows, rule_of, length_that_holds, size_that_holds, suits}
+use mir.Val.{bool_byte}
+use Rattle.fdoca.specs.Basics.{big}
+use Rattle.fdoca.specs.FieldType.{fixed_bytes, variable_bytes, terminated_bytes, short_bytes, integer, reversed_integer, packed_decimal, hex_float, reversed_float, binary_float, type_of, Size, bytes, digits, up_to, one_of, digits_up_to, size_of, allows, rule_of, length_that_holds, suits}
 use Rattle.fdoca.specs.FieldType as definition
 use Rattle.fdoca.specs.Triplet.{bias_of, mode_of, size_in}
 use Rattle.fdoca.specs.Check.{most, good_parameters, good_type, suits_type, good_column}
-use Rattle.fdoca.proofs.Tests.{by_test, by_lt}
+use Rattle.fdoca.proofs.Account.{big_two}
+use Rattle.field_types.specs.declared.FieldType.{FieldType}
+use Rattle.field_types.specs.declared.Sizes.{Sizes}
+use Rattle.field_types.specs.declared.Sizes.TheVariants.{UpTo, Two, Three, DigitsUpTo}
 use Rattle.field_types.specs.declared.Rule.{Rule}
 use Rattle.field_types.specs.declared.Shape.{Shape}
-use Rattle.field_types.specs.Rows.{top_of, sizes_of, most_digits, default_number, no_size, size_at, form_of, in_numbers, rule_for, encoded}
-use Rattle.field_types.specs.Parameters.{unused_zero, length_allowed, digits_allowed, size_allowed, rule_allows, size_held, good_eight, layout_number, size_number, shape_of, no_shape, shape_if}
-use Rattle.field_types.proofs.Rows.{prefix_below_4}
+use Rattle.field_types.specs.Types.{defined_type, maybe_defined}
+use Rattle.field_types.specs.Rows.{sizes_of, given, IsRule, rule_for}
+use Rattle.field_types.specs.Parameters.{unused_zero, allows_number, rule_allows, good_eight, layout_for, size_number, shape_of, shape_if}
 use Rattle.numbers.proofs.Pairs.{two_at}
-
--- no type has more than three sizes, one with digits allows one at the least and has no default, and a default is a number of two bytes above 0
-abbrev Few : Sizes → Option ℕ → Type 0
-Few (up_to n) none = Unit {0}
-Few (one_of ns) none = length ns ≤ 3
-Few (digits_up_to n) none = 0 < n
-Few (up_to n) (some m) = (0 < m) × (m < 65536)
-Few (one_of ns) (some m) = (length ns ≤ 3) × (0 < m) × (m < 65536)
-Few (digits_up_to n) (some m) = ⊥
-
-few : (o : Option FieldType) → Few (rule_for o).sizes (rule_for o).default
-unfolding rule_for rule_of
-few none = lit≤ tt
-few (some fixed_bytes) = tt
-few (some variable_bytes) = tt
-few (some terminated_bytes) = tt
-few (some short_bytes) = tt
-few (some integer) = lit≤ tt
-few (some reversed_integer) = lit≤ tt
-few (some packed_decimal) = lit≤ tt
-few (some hex_float) = (lit≤ tt, lit≤ tt, lit≤ tt)
-few (some reversed_float) = (lit≤ tt, lit≤ tt, lit≤ tt)
-few (some binary_float) = (lit≤ tt, lit≤ tt, lit≤ tt)
-
-few_sizes : (z : Sizes) (o : Option ℕ) → Few z o → Few z none
-few_sizes z none h = h
-few_sizes (up_to n) (some m) h = tt
-few_sizes (digits_up_to _) (some m) h = elim h [ ]
-few_sizes (one_of ns) (some m) h = h.0
-
-few_default : (z : Sizes) (m : ℕ) → Few z (some m) → (0 < m) × (m < 65536)
-few_default (up_to n) m h = h
-few_default (digits_up_to _) m h = elim h [ ]
-few_default (one_of ns) m h = (h.1, h.2)
 
 whole : (F : ℕ) → F / 256 * 256 + F % 256 ≡ F
 whole F = omega arith
 
--- a size by its two bytes as one number
-abbrev size_of_number : Sizes → (F : ℕ) → Size
-size_of_number z F = size_of z (F / 256) (F % 256)
+or_if : (b : Bool) → b ≡ (if b then true else false)
+or_if true = refl
+or_if false = refl
 
--- the test of a size by a rule's numbers, F being its two bytes as one number
-module _ (F : ℕ) (small : F < 65536) where
-  abbrev length_test : Sizes → Bool
-  length_test z =
-      if ltb F (top_of z) then true
-      else if eqb F (size_at z 0) then true
-      else if eqb F (size_at z 1) then true
-      else if eqb F (size_at z 2) then true
-      else false
+-- the ways through `Sizes::allow`
+module _ (z : Sizes) (F : ℕ) where
+  pub by_top : (n : ℕ) → z ≡ UpTo n → leb F n ≡ allows_number (sizes_of z) F
+  unfolding sizes_of allows_number
+  by_top n e = rw (e, whole F)
 
-  abbrev size_test : Sizes → Bool
-  size_test z = if eqb (most_digits z) 0 then length_test z else digits_allowed (most_digits z) (F / 256) (F % 256)
+  pub by_two : (a b : ℕ) → z ≡ Two a b → (if eqb F a then true else eqb F b) ≡ allows_number (sizes_of z) F
+  unfolding sizes_of allows_number
+  by_two a b e = rw (e, whole F, ← or_if (eqb F b)) refl
 
-  not_size : eqb F no_size ≡ false
-  not_size = ne_eqb F no_size (λ e. omega arith)
+  pub by_three : (a b c : ℕ) → z ≡ Three a b c → (if eqb F a then true else if eqb F b then true else eqb F c) ≡ allows_number (sizes_of z) F
+  unfolding sizes_of allows_number
+  by_three a b c e = rw (e, whole F, ← or_if (eqb F c)) refl
 
-  size_test_lem : (z : Sizes) → Few z none → size_test z ≡ allows z (size_of_number z F)
-  unfolding top_of sizes_of size_at most_digits digits_allowed
-  size_test_lem (up_to n) h =
-      rw (whole F)
-      (by_lt (λ z. z ≡ leb F n) F (n + 1)
-      (λ (l : F < n + 1). sym (le-leb F n (omega arith)))
-      (λ (l : n + 1 ≤ F). simp (not_size) (sym (lt-leb F n (omega arith)))))
-  size_test_lem (one_of []) h = simp (le-ltb F 0 zero-le, not_size)
-  size_test_lem (one_of (x ∷ [])) h = simp (le-ltb F 0 zero-le, not_size, whole F)
-  size_test_lem (one_of (x ∷ y ∷ [])) h = simp (le-ltb F 0 zero-le, not_size, whole F)
-  size_test_lem (one_of (x ∷ y ∷ z ∷ [])) h = simp (le-ltb F 0 zero-le, whole F)
-  size_test_lem (one_of (x ∷ y ∷ z ∷ w ∷ ns)) h = absurd (let z : ⊥ = omega arith in z)
-  size_test_lem (digits_up_to n) h =
-      let a : ℕ = F / 256 in
-      let b : ℕ = F % 256 in
-      rw (ne_eqb n 0 (λ e. omega arith))
-      (by_lt (λ z. z ≡ (leb 1 a && leb a n && leb b a)) a 1 (λ l. rw (lt-leb 1 a l))
-      (λ l. by_lt (λ z. z ≡ (leb 1 a && leb a n && leb b a)) n a (λ m. rw (le-leb 1 a l, lt-leb a n m)) (λ m. rw (le-leb 1 a l, le-leb a n m))))
+  pub by_digits : (n : ℕ) (r : Bool) → z ≡ DigitsUpTo n → r ≡ allows (digits_up_to n) (digits (F / 256) (F % 256)) → r ≡ allows_number (sizes_of z) F
+  unfolding sizes_of allows_number
+  by_digits n r e h = rw e h
 
--- the size that holds, by a rule's numbers
-in_turn : (F m : ℕ) (x y z : Bool) → (if x then F else if y then F else if z then F else m) ≡ (if (if x then true else if y then true else if z then true else false) then F else m)
-in_turn F m true y z = refl
-in_turn F m false true z = refl
-in_turn F m false false true = refl
-in_turn F m false false false = refl
+-- the default in place of a length
+pub default_is : (o : Option ℕ) (F r : ℕ) → (F ≡ 4 ⊎ (F ≡ 8 ⊎ F ≡ 16) → ⊥) → r ≡ unwrap_or o F → r ≡ length_that_holds (given o) F
+unfolding given
+default_is None F r h e = e
+default_is (Some n) F r h e = rw (ne_eqb F 4 (λ q. h (inl q)), ne_eqb F 8 (λ q. h (inr (inl q))), ne_eqb F 16 (λ q. h (inr (inr q)))) e
 
-numbers_hold : (r : definition.Rule) (F : ℕ) → Few r.sizes r.default → size_held (in_numbers r) F ≡ length_that_holds r.default F
-unfolding size_held in_numbers default_number
-numbers_hold r F h = go r.default h
-  where
-    go : (o : Option ℕ) → Few r.sizes o → (if eqb (default_number o) 0 then F else if eqb F 4 then F else if eqb F 8 then F else if eqb F 16 then F else default_number o) ≡ length_that_holds o F
-    go none k = refl
-    go (some m) k = let (l, _) = few_default r.sizes m k in rw (ne_eqb m 0 (λ e. omega arith)) (in_turn F m (eqb F 4) (eqb F 8) (eqb F 16))
+-- a mode or a bias indicator against the number that is its largest
+tested : (b : Bool) (x n : ℕ) → n ≡ bool_byte b → leb x n ≡ leb x (most b)
+tested true x n e = rw e
+tested false x n e = rw e
 
--- it is the definitions', and a number of two bytes
-module _ (r : definition.Rule) (a b : ℕ) (low : b < 256) (h : Few r.sizes r.default) where
-  abbrev number : Option ℕ → ℕ
-  number o = length_that_holds o (a * 256 + b)
+-- the ways through `Rule::allows`
+module _ (r : Rule) (bias mode size n : ℕ) (e : n ≡ bool_byte r.has_bias) where
+  pub bias_over : n < bias → false ≡ rule_allows r bias mode size
+  unfolding rule_allows
+  bias_over h = rw (← tested r.has_bias bias n e, lt-leb bias n h)
 
-  abbrev holding : Sizes → Option ℕ → Size
-  holding z o = size_that_holds (record { layout = r.layout; sizes = z; default = o; has_mode = r.has_mode; has_bias = r.has_bias }) (size_of z a b)
+  module _ (h : bias ≤ n) (m : ℕ) (f : m ≡ bool_byte r.has_mode) where
+    pub mode_over : (v : Bool) → v ≡ leb mode m → v ≡ false → v ≡ rule_allows r bias mode size
+    unfolding rule_allows
+    mode_over v k x = rw (← tested r.has_bias bias n e, le-leb bias n h, ← tested r.has_mode mode m f, ← k, x)
 
-  held_is : (number r.default ≡ size_number (holding r.sizes r.default)) × (size_of_number r.sizes (number r.default) ≡ holding r.sizes r.default)
-  held_is = go r.sizes r.default h
+    pub size_told : (v g : Bool) → v ≡ leb mode m → v ≡ true → g ≡ allows_number (sizes_of r.sizes) size → g ≡ rule_allows r bias mode size
+    unfolding rule_allows
+    size_told v g k x a = rw (← tested r.has_bias bias n e, le-leb bias n h, ← tested r.has_mode mode m f, ← k, x) a
+
+-- the rule of a type is that by which its codes are judged
+is_rule : (o : defined_option.Option definition.FieldType) (T : FieldType) (r : Rule) → some (defined_type T) ≡ o → IsRule r (rule_of (defined_type T)) → IsRule r (rule_for o)
+unfolding rule_for
+is_rule o T r e h = rw (← e) h
+
+-- a type whose size is in digits has no default
+abbrev NoDefault : definition.Sizes → defined_option.Option ℕ → Type 0
+NoDefault (up_to n) o = Unit {0}
+NoDefault (one_of ns) o = Unit {0}
+NoDefault (digits_up_to n) o = o ≡ none
+
+no_default : (o : defined_option.Option definition.FieldType) → NoDefault (rule_for o).sizes (rule_for o).default
+unfolding rule_for rule_of
+no_default none = tt
+no_default (some fixed_bytes) = tt
+no_default (some variable_bytes) = tt
+no_default (some terminated_bytes) = tt
+no_default (some short_bytes) = tt
+no_default (some integer) = tt
+no_default (some reversed_integer) = tt
+no_default (some packed_decimal) = refl
+no_default (some hex_float) = tt
+no_default (some reversed_float) = tt
+no_default (some binary_float) = tt
+
+-- the size that holds, by its two bytes as one number
+module _ (r : definition.Rule) (ps : List ℕ) (n size : ℕ) (low : get_or ps 7 0 < 256) (e : n ≡ big (get_or ps 6 0 ∷ get_or ps 7 0 ∷ [])) (es : size ≡ length_that_holds r.default n) where
+  abbrev Held : definition.Sizes → Size → Type 0
+  Held z s = (size ≡ size_number s) × (size_of z (size / 256) (size % 256) ≡ s)
+
+  abbrev a : ℕ
+  a = get_or ps 6 0
+
+  abbrev b : ℕ
+  b = get_or ps 7 0
+
+  is_two_lem : n ≡ a * 256 + b
+  is_two_lem = e ∙ big_two a b
+
+  held : NoDefault r.sizes r.default → Held r.sizes (size_in r ps)
+  held h = go r.sizes r.default h (rw is_two_lem at es)
     where
-      go : (z : Sizes) (o : Option ℕ) → Few z o → (number o ≡ size_number (holding z o)) × (size_of_number z (number o) ≡ holding z o)
-      go (up_to n) o k = (refl, ap bytes (whole (number o)))
-      go (one_of ns) o k = (refl, ap bytes (whole (number o)))
-      go (digits_up_to n) none k =
-          let e : (a * 256 + b) / 256 ≡ a = omega arith in
-          let f : (a * 256 + b) % 256 ≡ b = omega arith in
-          (refl, rw (e, f))
-      go (digits_up_to n) (some _) k = elim k [ ]
-
-  held_small : a < 256 → number r.default < 65536
-  held_small high = go r.default h
-    where
-      go : (o : Option ℕ) → Few r.sizes o → number o < 65536
-      go none k = omega arith
-      go (some m) k = by_test (λ F. F < 65536) (elem (a * 256 + b) (4 ∷ 8 ∷ 16 ∷ [])) (λ e. omega arith) (λ e. (few_default r.sizes m k).1)
+      go : (z : definition.Sizes) (o : defined_option.Option ℕ) → NoDefault z o → size ≡ length_that_holds o (a * 256 + b)
+          → Held z (definition.size_that_holds (record { layout = r.layout; sizes = z; default = o; has_mode = r.has_mode; has_bias = r.has_bias }) (size_of z a b))
+      go (up_to n) o k e = (e, ap bytes (whole size ∙ e))
+      go (one_of ns) o k e = (e, ap bytes (whole size ∙ e))
+      go (digits_up_to n) o k e =
+          let f : size ≡ a * 256 + b = rw k at e in
+          let x : size / 256 ≡ a = omega arith in
+          let y : size % 256 ≡ b = omega arith in
+          (f, rw (x, y))
 
 -- what a rule of the definitions asks of the parameters
 abbrev allowed : definition.Rule → (bias mode : ℕ) → Size → Bool
 allowed r bias mode size = leb bias (most r.has_bias) && (leb mode (most r.has_mode) && allows r.sizes size)
-
--- a rule in numbers allows what the rule allows: a size, and all parameters
-numbers_size : (r : definition.Rule) (F : ℕ) → F < 65536 → Few r.sizes none → size_allowed (in_numbers r) F ≡ allows r.sizes (size_of_number r.sizes F)
-unfolding size_allowed length_allowed in_numbers
-numbers_size r F small h = size_test_lem F small r.sizes h
-
-numbers_allow : (r : definition.Rule) (bias mode F : ℕ) → F < 65536 → Few r.sizes none → rule_allows (in_numbers r) bias mode F ≡ allowed r bias mode (size_of_number r.sizes F)
-unfolding rule_allows in_numbers
-numbers_allow r bias mode F small h =
-    let size : Size = size_of_number r.sizes F in
-    by_lt (λ z. z ≡ allowed r bias mode size) (most r.has_bias) bias
-    (λ (l : most r.has_bias < bias). simp (lt-leb _ _ l))
-    (λ (l : bias ≤ most r.has_bias). by_lt (λ z. z ≡ allowed r bias mode size) (most r.has_mode) mode
-    (λ (m : most r.has_mode < mode). simp (le-leb _ _ l, lt-leb _ _ m))
-    (λ (m : mode ≤ most r.has_mode). simp (le-leb _ _ l, le-leb _ _ m) (numbers_size r F small h)))
 
 -- the test of all eight bytes, with the unused ones first
 unused_first : (a b c d e f : Bool) → a && b && c && d && e && f ≡ (a && (b && d)) && (c && (e && f))
@@ -169,12 +145,12 @@ unused_first true true false false e f = refl
 unused_first true false c d e f = refl
 unused_first false b c d e f = refl
 
-good_type_lem : (o : Option FieldType) (ps : List ℕ) → good_type o ps ≡ good_parameters (rule_for o) ps
+good_type_lem : (o : defined_option.Option definition.FieldType) (ps : List ℕ) → good_type o ps ≡ good_parameters (rule_for o) ps
 unfolding good_parameters rule_for
 good_type_lem none ps = simp and-false
 good_type_lem (some T) ps = refl
 
-by_parts : (o : Option FieldType) (ps : List ℕ) → good_type o ps ≡ unused_zero ps && allowed (rule_for o) (bias_of ps) (mode_of ps) (size_in (rule_for o) ps)
+by_parts : (o : defined_option.Option definition.FieldType) (ps : List ℕ) → good_type o ps ≡ unused_zero ps && allowed (rule_for o) (bias_of ps) (mode_of ps) (size_in (rule_for o) ps)
 unfolding good_parameters unused_zero
 by_parts o ps =
     good_type_lem o ps
@@ -190,33 +166,26 @@ pub good_eight_lem : (code : ℕ) (ps : List ℕ) → length ps ≡ 8 → good_e
 unfolding good_eight
 good_eight_lem code ps h = simp (eq-eqb _ _ h)
 
--- for callers: a layout's number tells whether all is good
-number_small : (z : Sizes) (l : Layout) → form_of z l < 255
-unfolding form_of
-number_small (digits_up_to n) l = lit≤ tt
-number_small (up_to n) l = omega (arith, prefix_below_4 l)
-number_small (one_of ns) l = omega (arith, prefix_below_4 l)
-
-module _ (code : ℕ) (ps : List ℕ) (x : Shape) where
-  pub shape_none : (good : Bool) → x ≡ shape_if good code ps → x.layout ≡ 255 → good ≡ false
-  unfolding shape_if shape_of layout_number
-  shape_none true e h =
-      let q : x.layout ≡ layout_number code = ap (λ y. y.layout) e in
-      absurd (let z : ⊥ = omega (arith, number_small (rule_for (type_of code)).sizes (rule_for (type_of code)).layout) in z)
-  shape_none false e h = refl
-
-  pub shape_some : (good : Bool) → x ≡ shape_if good code ps → (x.layout ≡ 255 → ⊥) → good ≡ true
+-- for callers: there is a shape exactly where all is good, and it is that of the code and the parameters
+module _ (code : ℕ) (ps : List ℕ) where
+  pub shape_none : (good : Bool) → None ≡ shape_if good code ps → good ≡ false
   unfolding shape_if
-  shape_some true e h = refl
-  shape_some false e h = absurd (h (ap (λ y. y.layout) e))
+  shape_none true e = cc
+  shape_none false e = refl
 
-  pub shape_is : (good : Bool) → x ≡ shape_if good code ps → good ≡ true → x ≡ shape_of code ps
+  pub shape_some : (good : Bool) (x : Shape) → Some x ≡ shape_if good code ps → good ≡ true
   unfolding shape_if
-  shape_is good e h = rw h at e
+  shape_some true x e = refl
+  shape_some false x e = cc
 
-  pub shape_not : (good : Bool) → x ≡ no_shape → good ≡ false → x ≡ shape_if good code ps
+  pub shape_is : (good : Bool) (x : Shape) → Some x ≡ shape_if good code ps → x ≡ shape_of code ps
   unfolding shape_if
-  shape_not good e h = e ∙ rw h
+  shape_is true x e = cc
+  shape_is false x e = cc
+
+  pub shape_not : (good : Bool) → good ≡ false → None ≡ shape_if good code ps
+  unfolding shape_if
+  shape_not good h = rw h
 
 -- the ways through `shape_of`
 module _ (code : ℕ) (ps : List ℕ) where
@@ -228,45 +197,58 @@ module _ (code : ℕ) (ps : List ℕ) where
   unfolding good_eight
   unused_set z e f = simp (by_parts, ← e, f, and-false)
 
-  module _ (r : Rule) (rule-is : r ≡ encoded (type_of code)) (a b size : ℕ) (ea : a ≡ get_or ps 6 0) (high : a < 256) (eb : b ≡ get_or ps 7 0) (low : b < 256) (es : size ≡ size_held r (a * 256 + b)) where
-    size_is : size ≡ length_that_holds (rule_for (type_of code)).default (a * 256 + b)
-    unfolding encoded
-    size_is = es ∙ ap (λ q. size_held q (a * 256 + b)) rule-is ∙ numbers_hold (rule_for (type_of code)) (a * 256 + b) (few (type_of code))
+  pub without_type : maybe_defined None ≡ type_of code → good_eight code ps ≡ false
+  unfolding good_eight
+  without_type h = rw (← h) (simp and-false)
 
-    small : size < 65536
-    small = rw size_is (held_small (rule_for (type_of code)) a b low (few (type_of code)) high)
+  module _ (T : FieldType) (r : Rule) (t : maybe_defined (Some T) ≡ type_of code) (i : IsRule r (rule_of (defined_type T))) (n size : ℕ) (e : n ≡ big (get_or ps 6 0 ∷ get_or ps 7 0 ∷ [])) (low : get_or ps 7 0 < 256) (es : size ≡ length_that_holds (given r.default) n) where
+    abbrev rule : definition.Rule
+    rule = rule_for (type_of code)
 
-    pub by_rule : (z : Bool) (bias : ℕ) (g answer : Bool) → length ps ≡ 8 → z ≡ unused_zero ps → z ≡ true → bias ≡ big (get_or ps 2 0 ∷ get_or ps 3 0 ∷ [])
+    is : IsRule r rule
+    is = is_rule (type_of code) T r t i
+
+    size_is : (size ≡ size_number (size_in rule ps)) × (size_of rule.sizes (size / 256) (size % 256) ≡ size_in rule ps)
+    size_is = held rule ps n size low e (rw is.default at es) (no_default (type_of code))
+
+    pub told_by_rule : (z : Bool) (bias : ℕ) (g answer : Bool) → length ps ≡ 8 → z ≡ unused_zero ps → z ≡ true → bias ≡ big (get_or ps 2 0 ∷ get_or ps 3 0 ∷ [])
         → g ≡ rule_allows r bias (get_or ps 5 0) size → g ≡ answer → good_eight code ps ≡ answer
-    unfolding encoded
-    by_rule z bias g answer h e t i d x =
-        let R : definition.Rule = rule_for (type_of code) in
-        let good : rule_allows r bias (get_or ps 5 0) size ≡ allowed R bias (get_or ps 5 0) (size_of_number R.sizes size) =
-        rw rule-is (numbers_allow R bias (get_or ps 5 0) size small (few_sizes R.sizes R.default (few (type_of code)))) in
-        let held : size_of_number R.sizes size ≡ size_in R ps = rw (size_is, ← ea, ← eb) (held_is R a b low (few (type_of code))).1 in
-        sym (d ∙ good ∙ simp (good_eight_lem code ps h, by_parts, ← e, t, bias_read ps h, i, held)) ∙ x
+    unfolding rule_allows allows_number
+    told_by_rule z bias g answer h u t i d x =
+        let asked : g ≡ allowed rule bias (get_or ps 5 0) (size_in rule ps) = d ∙ rw (is.has_bias, is.has_mode, is.sizes, size_is.1) refl in
+        good_eight_lem code ps h ∙ by_parts (type_of code) ps ∙ rw (← u, t, bias_read ps h, ← i) (sym asked ∙ x)
 
-    pub by_shape : (good : Bool) → good ≡ true → record { layout = r.prefix; size = size } ≡ shape_if good code ps
-    unfolding encoded in_numbers shape_if shape_of layout_number
-    by_shape good h = rw (h, size_is, (held_is (rule_for (type_of code)) a b low (few (type_of code))).0, rule-is, ea, eb)
+    pub by_shape : (good : Bool) → good ≡ true → Some (record { layout = r.layout; size = size }) ≡ shape_if good code ps
+    unfolding shape_if shape_of layout_for
+    by_shape good h = rw (h, is.layout, ← size_is.0) refl
 
--- the ways through `good_length`, a and b being the numbers that the bytes p and q are
-suits_type_lem : (o : Option FieldType) (a b : ℕ) → suits (rule_for o) a b ≡ suits_type o a b
-unfolding rule_for
-suits_type_lem none a b = refl
-suits_type_lem (some T) a b = refl
+-- the ways through `good_length`, n being the number that the bytes a and b are
+module _ (code a b n : ℕ) (e : n ≡ big (a ∷ b ∷ [])) where
+  is_two : n ≡ a * 256 + b
+  is_two = e ∙ big_two a b
 
-module _ (code p q a b : ℕ) (ea : a ≡ p) (eb : b ≡ q) where
-  pub replaces_nothing : a * 256 + b ≡ 0 → true ≡ good_column code p q
+  pub replaces_nothing : n ≡ 0 → true ≡ good_column code a b
   unfolding good_column
-  replaces_nothing e = rw (← ea, ← eb, le-ltb 0 (a * 256 + b) (omega arith))
+  replaces_nothing h = rw (← is_two, le-ltb 0 n (omega arith))
 
-  pub length_judged : (r : Rule) (g : Bool) → r ≡ encoded (type_of code) → a < 256 → b < 256 → (a * 256 + b ≡ 0 → ⊥) → g ≡ size_allowed r (a * 256 + b) → g ≡ good_column code p q
-  unfolding encoded good_column
-  length_judged r g e high low above k =
-      let R : definition.Rule = rule_for (type_of code) in
-      let x : (a * 256 + b) / 256 ≡ a = omega arith in
-      let y : (a * 256 + b) % 256 ≡ b = omega arith in
-      let allowed-is : size_allowed r (a * 256 + b) ≡ suits R a b =
-      rw e (numbers_size R (a * 256 + b) (omega arith) (few_sizes R.sizes R.default (few (type_of code))) ∙ rw (x, y)) in
-      k ∙ allowed-is ∙ rw (← ea, ← eb, lt-ltb 0 (a * 256 + b) (omega (arith, above))) (suits_type_lem (type_of code) a b)
+  module _ (above : n ≡ 0 → ⊥) where
+    judged : suits_type (type_of code) a b ≡ good_column code a b
+    unfolding good_column
+    judged = rw (← is_two, lt-ltb 0 n (omega (arith, above)))
+
+    pub suits_none : maybe_defined None ≡ type_of code → false ≡ good_column code a b
+    suits_none h = (rw (← h) refl) ∙ judged
+
+    pub suits_rule : (T : FieldType) (r : Rule) (g : Bool) → maybe_defined (Some T) ≡ type_of code → IsRule r (rule_of (defined_type T)) → b < 256
+        → g ≡ allows_number (sizes_of r.sizes) n → g ≡ good_column code a b
+    unfolding allows_number
+    suits_rule T r g h k low l = l ∙ rw (k.sizes, x, y) told ∙ judged
+      where
+        x : n / 256 ≡ a
+        x = omega (arith, is_two)
+
+        y : n % 256 ≡ b
+        y = omega (arith, is_two)
+
+        told : suits (rule_of (defined_type T)) a b ≡ suits_type (type_of code) a b
+        told = rw (← h) refl

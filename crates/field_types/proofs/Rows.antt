@@ -1,22 +1,22 @@
--- Laws of the table of rules: the nullable forms, the rule that a plain code finds, the layout behind a rule's number, and the type whose size is in digits.
+-- Laws of the types: the nullable forms, the layout behind a number, and the type whose size is in digits.
 -- Assumes nothing.
-use Rattle.std.specs.Prelude.{if◌then◌else◌}
-use mathlib.Core.Path.{◌≡◌, refl, sym, ◌∙◌, ap}
+use Rattle.std.specs.Prelude.{Option, None, Some}
+use mathlib.Core.Path.{◌≡◌, refl, ap}
 use Prim.Native.Nat.{ℕ, ◌+◌, ◌<◌}
 use native.Mathlib.Omega.{arith}
-use mathlib.Core.Bool.{Bool, true, false, not}
-use mathlib.Core.Option.{Option, none, some, none-ne-some}
-use lib.Dec.{eqb}
-use borrow.Author.Tests.{ne_eqb, not-true}
-use Rattle.fdoca.specs.Basics.{lookup}
-use Rattle.fdoca.specs.FieldType.{FieldType, packed_decimal, types, plain, type_of, rule_of, Layout, fixed, counted, terminated, signed_two, unsigned_one}
-use Rattle.fdoca.proofs.Table.{looked_up, Unlisted, not_listed}
+use mathlib.Core.Bool.{true, false}
+use mathlib.Core.Option.{none}
+use Rattle.fdoca.specs.FieldType.{plain, type_of, rule_of, fixed, counted, terminated, signed_two, unsigned_one}
+use Rattle.fdoca.specs.FieldType as definition
 use Rattle.fdoca.proofs.TypeRows.{plain_low, plain_high}
-use Rattle.field_types.specs.declared.Rule.{Rule}
-use Rattle.field_types.specs.Rows.{prefix_of, layout_of, form_of, rule_for, encoded, rule_at}
-use Rattle.field_types.specs.Parameters.{layout_number, in_digits}
+use Rattle.field_types.specs.Layouts.{numbered, layout_of, prefix_of, form_of}
+use Rattle.field_types.specs.declared.FieldType.{FieldType}
+use Rattle.field_types.specs.declared.FieldType.TheVariants.{FixedBytes, VariableBytes, TerminatedBytes, ShortBytes, Integer, ReversedInteger, PackedDecimal, HexFloat, ReversedFloat, BinaryFloat}
+use Rattle.field_types.specs.Types.{defined_type, maybe_defined}
+use Rattle.field_types.specs.Rows.{rule_for}
+use Rattle.field_types.specs.Parameters.{layout_for, is_digits, in_digits}
 
--- a code and its nullable form have the same plain code, and so the same type and the same row
+-- a code and its nullable form have the same plain code, and so the same type and the same rule
 pub plain_nullable : (code : ℕ) → code < 128 → plain (code + 128) ≡ plain code
 plain_nullable code l = omega (arith, plain_low code l, plain_high (code + 128) (omega arith))
 
@@ -24,8 +24,8 @@ pub type_nullable : (code : ℕ) → code < 128 → type_of (code + 128) ≡ typ
 unfolding type_of
 type_nullable code l = rw (plain_nullable code l)
 
-pub row_nullable : (code : ℕ) → code < 128 → rule_at (plain (code + 128)) ≡ rule_at (plain code)
-row_nullable code l = ap rule_at (plain_nullable code l)
+pub row_nullable : (code : ℕ) → code < 128 → rule_for (type_of (code + 128)) ≡ rule_for (type_of code)
+row_nullable code l = ap rule_for (type_nullable code l)
 
 -- X'00' and X'80' stand for no type
 pub no_type : (type_of 0x00 ≡ none) × (type_of 0x80 ≡ none)
@@ -33,45 +33,43 @@ unfolding type_of
 no_type = (refl, refl)
 
 -- the layout behind its number
-pub layout_back : (l : Layout) → layout_of (prefix_of l) ≡ l
-unfolding layout_of prefix_of
+pub layout_back : (l : definition.Layout) → layout_of (numbered (prefix_of l)) ≡ l
+unfolding layout_of numbered prefix_of
 layout_back fixed = refl
 layout_back (counted signed_two) = refl
 layout_back (counted unsigned_one) = refl
 layout_back terminated = refl
 
-pub prefix_below_4 : (l : Layout) → prefix_of l < 4
+pub prefix_below_4 : (l : definition.Layout) → prefix_of l < 4
 unfolding prefix_of
 prefix_below_4 fixed = omega arith
 prefix_below_4 (counted signed_two) = omega arith
 prefix_below_4 (counted unsigned_one) = omega arith
 prefix_below_4 terminated = omega arith
 
--- a plain code that is k finds the rule of k, and one that no type has finds none
-pub rule_found : (r : Rule) (c k : ℕ) → c ≡ k → r ≡ rule_at k → r ≡ rule_at c
-rule_found r c k e h = h ∙ sym (ap rule_at e)
-
-pub rule_none : (c : ℕ) → Unlisted c types → encoded none ≡ rule_at c
-unfolding rule_at
-rule_none c h = rw (not_listed c types h)
-
--- a code is judged by the rule that its plain code finds
-pub rule_of_plain : (code c : ℕ) (r : Rule) → c ≡ plain code → r ≡ rule_at c → r ≡ encoded (type_of code)
-unfolding rule_at type_of
-rule_of_plain code c r w k = k ∙ ap rule_at w
-
 -- a packed decimal's size alone is in digits
-pub digits_told : (code c : ℕ) → c ≡ plain code → eqb c 0x30 ≡ in_digits code
-unfolding in_digits layout_number type_of rule_for rule_of form_of prefix_of
-digits_told code c e = rw e (go (lookup (plain code) types) refl)
-  where
-    form : FieldType → ℕ
-    form T = form_of (rule_of T).sizes (rule_of T).layout
+module _ (code : ℕ) where
+  pub no_digits : (o : Option FieldType) → maybe_defined o ≡ type_of code → o ≡ None → false ≡ in_digits code
+  unfolding in_digits layout_for rule_for form_of numbered prefix_of
+  no_digits o e h = rw (← e, h) refl
 
-    listed : (b : Bool) (T : FieldType) → (if b then eqb (form T) 4 else not (eqb (form T) 4)) ≡ true → b ≡ eqb (form T) 4
-    listed true T h = sym h
-    listed false T h = sym (not-true (eqb (form T) 4) h)
+  module _ (T : FieldType) (e : maybe_defined (Some T) ≡ type_of code) where
+    pub packed_digits : T ≡ PackedDecimal → true ≡ in_digits code
+    unfolding in_digits layout_for rule_for rule_of form_of
+    packed_digits k = rw (← e, k) refl
 
-    go : (o : Option FieldType) → lookup (plain code) types ≡ o → eqb (plain code) 0x30 ≡ eqb (form_of (rule_for o).sizes (rule_for o).layout) 4
-    go none h = ne_eqb (plain code) 0x30 (λ q. none-ne-some packed_decimal (sym h ∙ rw q))
-    go (some T) h = listed (eqb (plain code) 0x30) T (looked_up (λ n T. if eqb n 0x30 then eqb (form T) 4 else not (eqb (form T) 4)) (plain code) types T refl h)
+    pub other_digits : (T ≡ PackedDecimal → ⊥) → false ≡ in_digits code
+    unfolding in_digits layout_for rule_for rule_of form_of numbered prefix_of
+    other_digits k = rw (← e) (go T k)
+      where
+        go : (T : FieldType) → (T ≡ PackedDecimal → ⊥) → false ≡ is_digits (form_of (rule_of (defined_type T)).sizes (rule_of (defined_type T)).layout)
+        go FixedBytes k = refl
+        go VariableBytes k = refl
+        go TerminatedBytes k = refl
+        go ShortBytes k = refl
+        go Integer k = refl
+        go ReversedInteger k = refl
+        go PackedDecimal k = absurd (k refl)
+        go HexFloat k = refl
+        go ReversedFloat k = refl
+        go BinaryFloat k = refl

@@ -1,2 +1,4 @@
+pub mod Layouts
+pub mod Types
 pub mod Rows
 pub mod Parameters

@@ -6,23 +6,45 @@ use native.Mathlib.Omega.{arith}
 use mathlib.Core.Bool.{true, false, ◌&&◌, true≢false}
 use mathlib.Core.Option.{some}
 use lib.Dec.{leb, eqb, lit≤, lit<}
-use borrow.Author.Tests.{leb-true, ne_eqb}
+use borrow.Author.Tests.{leb-true, eq-eqb, ne_eqb}
 use Rattle.fdoca.specs.Packed.{all_below}
-use Rattle.fdoca.specs.FieldType.{FieldType, fixed_bytes, variable_bytes, terminated_bytes, short_bytes, integer, reversed_integer, packed_decimal, hex_float, reversed_float, binary_float, type_of, Layout, fixed, Size, bytes, digits, in_bytes, Sizes, up_to, one_of, digits_up_to, size_of, allows, rule_of}
+use Rattle.fdoca.specs.FieldType.{FieldType, fixed_bytes, variable_bytes, terminated_bytes, short_bytes, integer, reversed_integer, packed_decimal, hex_float, reversed_float, binary_float, type_of, Layout, fixed, counted, terminated, signed_two, unsigned_one, Size, bytes, digits, in_bytes, Sizes, up_to, one_of, digits_up_to, size_of, allows, rule_of}
 use Rattle.fdoca.specs.Item.{Field, field_length}
 use Rattle.fdoca.proofs.Tests.{and_left, and_right}
 use Rattle.fdoca.proofs.TypeRows.{elem_in}
 use Rattle.fdoca.proofs.ValueRows.{one_below}
-use Rattle.field_types.specs.Rows.{prefix_of, form_of, rule_for}
-use Rattle.field_types.specs.Parameters.{layout_number, size_number}
+use Rattle.field_types.specs.Layouts.{number_of, numbered, prefix_of, form_of}
+use Rattle.field_types.specs.Rows.{rule_for}
+use Rattle.field_types.specs.Parameters.{layout_for, size_number}
 use Rattle.field_types.proofs.Rows.{prefix_below_4}
 use Rattle.fields.specs.Plan.{digits_part, own_of, entry_of, Proper}
 use Rattle.fields.specs.Parts.{length_part, layout_part, entry_by}
 
--- the digits' part of a layout's number
-pub digits_way : (layout size : ℕ) → layout ≡ 4 → (4 * (size / 256 % 2 + 2 * (size % 256)) ≡ layout_part layout size) × (4 * (size / 256 % 2 + 2 * (size % 256)) < 4096)
-unfolding layout_part
-digits_way layout size e = (rw e, omega arith)
+-- what a size adds to an entry, by whether it is in digits, n being their layout's number
+module _ (layout n size : ℕ) (d : n ≡ 4) where
+  pub digits_length : size < 65536 → layout ≡ n → (size / 256 / 2 + 1 ≡ length_part layout size) × (size / 256 / 2 + 1 < 65536)
+  unfolding length_part
+  digits_length l e = (simp (eq-eqb layout 4 (e ∙ d)), omega arith)
+
+  pub other_length : size < 65536 → (layout ≡ n → ⊥) → (size ≡ length_part layout size) × (size < 65536)
+  unfolding length_part
+  other_length l h = (simp (ne_eqb layout 4 (λ e. h (e ∙ sym d))), l)
+
+  pub digits_layout : layout ≡ n → (4 * (size / 256 % 2 + 2 * (size % 256)) ≡ layout_part layout size) × (4 * (size / 256 % 2 + 2 * (size % 256)) < 4096)
+  unfolding layout_part
+  digits_layout e = (simp (eq-eqb layout 4 (e ∙ d)), omega arith)
+
+  pub other_layout : (r : ℕ) → (layout ≡ n → ⊥) → r ≡ layout → layout < 256 → (r ≡ layout_part layout size) × (r < 4096)
+  unfolding layout_part
+  other_layout r h e l = (simp (ne_eqb layout 4 (λ e. h (e ∙ sym d))) e, omega (arith, e))
+
+-- the layout of a number below 4 has that number
+pub numbered_back : (l : Layout) → number_of (numbered (prefix_of l)) ≡ prefix_of l
+unfolding numbered prefix_of
+numbered_back fixed = refl
+numbered_back (counted signed_two) = refl
+numbered_back (counted unsigned_one) = refl
+numbered_back terminated = refl
 
 -- the sizes of a type are numbers of two bytes; where they are in digits, there are few of them, and the layout is fixed
 abbrev Small : Sizes → Layout → Type 0
@@ -86,14 +108,14 @@ bounded T size h = bounded_by (rule_of T).sizes (rule_of T).layout size (small_s
 
 -- a size's parts of the entry
 record PartsOf (z : Sizes) (l : Layout) (size : Size) : Type 0 where
-  length_is : length_part (form_of z l) (size_number size) ≡ in_bytes size
-  layout_is : layout_part (form_of z l) (size_number size) ≡ prefix_of l + 4 * digits_part size
+  length_is : length_part (number_of (form_of z l)) (size_number size) ≡ in_bytes size
+  layout_is : layout_part (number_of (form_of z l)) (size_number size) ≡ prefix_of l + 4 * digits_part size
 
-of_bytes : (z : Sizes) (l : Layout) (F : ℕ) → form_of z l ≡ prefix_of l → PartsOf z l (bytes F)
+of_bytes : (z : Sizes) (l : Layout) (F : ℕ) → form_of z l ≡ numbered (prefix_of l) → PartsOf z l (bytes F)
 unfolding length_part layout_part digits_part
 of_bytes z l F e =
     let n : eqb (prefix_of l) 4 ≡ false = ne_eqb (prefix_of l) 4 (λ q. omega (arith, prefix_below_4 l)) in
-    record { length_is = rw (e, n); layout_is = rw (e, n) (omega arith) }
+    record { length_is = rw (e, numbered_back l, n); layout_is = rw (e, numbered_back l, n) (omega arith) }
 
 parts_of : (z : Sizes) (l : Layout) (size : Size) → Small z l → InTwo z size → PartsOf z l size
 unfolding form_of prefix_of digits_part length_part layout_part
@@ -109,10 +131,10 @@ parts_of (digits_up_to n) l (digits p q) (_, e) (a, b) =
 
 -- the entry of a field, from its numbers
 pub entry_made : (f : Field) (own layout size : ℕ) → type_of f.code ≡ some f.type → InTwo (rule_of f.type).sizes f.size
-    → own ≡ own_of f → layout ≡ layout_number f.code → size ≡ size_number f.size → entry_by own layout size ≡ entry_of f
-unfolding entry_by entry_of layout_number rule_for
+    → own ≡ own_of f → layout ≡ number_of (layout_for f.code) → size ≡ size_number f.size → entry_by own layout size ≡ entry_of f
+unfolding entry_by entry_of layout_for rule_for
 entry_made f own layout size q two eo el es =
-    let k : layout ≡ form_of (rule_of f.type).sizes (rule_of f.type).layout = el ∙ ap (λ o. form_of (rule_for o).sizes (rule_for o).layout) q in
+    let k : layout ≡ number_of (form_of (rule_of f.type).sizes (rule_of f.type).layout) = el ∙ ap (λ o. number_of (form_of (rule_for o).sizes (rule_for o).layout)) q in
     let p : PartsOf (rule_of f.type).sizes (rule_of f.type).layout f.size =
     parts_of (rule_of f.type).sizes (rule_of f.type).layout f.size (small_sizes f.type) two in
     rw (k, es, p.length_is, p.layout_is, eo)

@@ -2,7 +2,7 @@
 use Rattle.std.specs.Prelude.{ℕ, ◌+◌, ◌*◌, ◌%◌, ◌<◌, ◌≡◌, List, [], ◌∷◌}
 use Rattle.fdoca.specs.FieldType.{Size, bytes, digits, rule_of}
 use Rattle.fdoca.specs.Item.{Field, field_length}
-use Rattle.field_types.specs.Rows.{prefix_of}
+use Rattle.field_types.specs.Layouts.{prefix_of}
 
 -- What a size says beyond its length in bytes: whether its digits are odd in number, and how many are fraction digits.
 unfoldable pub digits_part : Size → ℕ

@@ -5,7 +5,6 @@ use Prim.Native.Nat.{ℕ, ◌+◌, ◌-◌, ◌*◌, ◌/◌, ◌%◌, ◌^◌, 
 use native.Mathlib.Nat.{pow-suc, mul_assoc, mul_right_comm}
 use native.Mathlib.Numerals.{add-one}
 use native.Mathlib.Omega.{arith}
-use Rattle.floats.specs.Reals.{Narrow}
 
 doubled : (q p : ℕ) → q * 2 * 2 ^ p ≡ q * 2 ^ (p + 1)
 doubled q p = rw (add-one, pow-suc) (mul_right_comm q 2 (2 ^ p) ∙ mul_assoc q (2 ^ p) 2)
@@ -16,19 +15,5 @@ left_more q p n h e = let k : p - 1 + 1 ≡ p = omega (arith, h) in doubled q (p
 pub right_more : (q p n : ℕ) → (q % 2 ≡ 1 → ⊥) → q * 2 ^ p ≡ n → q / 2 * 2 ^ (p + 1) ≡ n
 right_more q p n h e = let k : q / 2 * 2 ≡ q = omega (arith, h) in sym (doubled (q / 2) p) ∙ rw k e
 
-pub right_less : (q : ℕ) → 2 ^ 53 ≤ q → q / 2 < q
-right_less q h = omega arith
-
 pub right_room : (q n p : ℕ) → n ≤ p → q + (p - n) * 2 ^ 52 < 2 ^ 56 → 2 ^ 53 ≤ q → q / 2 + (p + 1 - n) * 2 ^ 52 < 2 ^ 56
 right_room q n p l h k = omega arith
-
-pub right_most : (q n p : ℕ) → n ≤ 2030 → n ≤ p → q + (p - n) * 2 ^ 52 < 2 ^ 56 → p ≤ 2045
-right_most q n p m l h = omega arith
-
-pub narrow_odd : (q : ℕ) → q % 2 ≡ 1 → Narrow q
-unfolding Narrow
-narrow_odd q o l = o
-
-pub narrow_small : (q : ℕ) → q < 2 ^ 53 → Narrow q
-unfolding Narrow
-narrow_small q l h = absurd (let z : ⊥ = omega arith in z)

@@ -1,27 +1,25 @@
 -- The ways through the other functions.
 -- Assumes nothing.
-use Rattle.std.specs.Prelude.{if◌then◌else◌}
+use Rattle.std.specs.Prelude.{Some, None, if◌then◌else◌}
+use Rattle.std.specs.Prelude as given
 use mathlib.Core.Path.{◌≡◌, refl, sym, ap, ◌∙◌, subst}
 use Prim.Native.Nat.{ℕ, zero, suc, ◌+◌, ◌-◌, ◌*◌, ◌/◌, ◌%◌, ◌^◌, ◌<◌, ◌≤◌}
 use native.Mathlib.Nat.{zero-mul, mul_assoc, mul-le-mul_left}
 use native.Mathlib.Omega.{arith}
 use mathlib.Core.Bool.{Bool, true, false, not}
-use mathlib.Core.Option.{some, none}
 use lib.Dec.{T, leb, eqb}
 use lib.Ieee.{Float, binary64, minus, of_bits, of_fields, nan_bits}
 use lib.Ieee.Exact.{HasValue}
 use borrow.Author.Tests.{le-leb, lt-leb, eq-eqb, ne_eqb, eqb-false}
 use lib.Pow.{pow-add, pow_pos}
-use Rattle.fdoca.specs.Float.{Equal, equal_float, short_hexadecimal, long_hexadecimal, short_binary, long_binary, is_negative, characteristic, fraction, number_of, float_of}
+use Rattle.fdoca.specs.Float.{Equal, equal_float, Format, format, two, sixteen, short_hexadecimal, long_hexadecimal, short_binary, long_binary, is_negative, characteristic, fraction, number_of, float_of}
 use Rattle.fdoca.proofs.Tests.{at_least}
 use Rattle.fdoca.proofs.Floats.{doubled, is_equal_float, number, worth_over, over_none}
-use Rattle.fdoca.proofs.FloatForms.{in_range, above_maximum, is_float, zero_is, fields_value, fields_fit}
-use Rattle.floats.specs.declared.Real.{Real}
-use Rattle.floats.specs.Reals.{real, Units, Given, exact, over, Narrow, significand_by, power_by}
-
--- NO FLOAT: the literal 0.0
-pub no_real : (x : Real) → x ≡ record { given = false; value = of_bits binary64 0 } → x ≡ real none
-no_real x e = e ∙ rw zero_is
+use Rattle.fdoca.proofs.FloatForms.{above_maximum, is_float, fields_value, fields_fit}
+use Rattle.fdoca.proofs.FloatForms as forms
+use Rattle.fdoca.specs.Returned.{option_of}
+use Rattle.floats.specs.declared.Scaled.{Scaled}
+use Rattle.floats.specs.Reals.{Units, Hexadecimal, exact, over, Narrow, significand_by, power_by, Binary, in_range, above}
 
 -- THE PATTERN of a sign, a characteristic and a fraction
 module _ (s : Bool) (x t b : ℕ) (sign : leb (2 ^ 63) b ≡ s) (field : b % 2 ^ 63 / 2 ^ 52 ≡ x) (digits : b % 2 ^ 52 ≡ t) where
@@ -78,12 +76,12 @@ module _ (s : Bool) (m p : ℕ) where
         rw e (units (r + 1) (q - 2 ^ 52) x (omega arith) (rw same at w))
 
 -- BINARY
-module _ (v : Float) (s : Bool) (c t h p : ℕ) where
-  pub units_low : c ≡ 0 → Units v s t p → Units v s (significand_by h c t) (power_by p c)
-  units_low e u = rw (eq-eqb c 0 e) u
+module _ (v : Float) (s : Bool) (c t h m p : ℕ) (x : Scaled) (l : c ≤ m) (u : Units v s x.significand x.power) where
+  pub low : c ≡ 0 → x ≡ record { significand = t; power = p } → Binary s c t h m p (Some v)
+  low e w = in_range l (rw (eq-eqb c 0 e) (rw w at u))
 
-  pub units_high : (c ≡ 0 → ⊥) → Units v s (h + t) (p + c - 1) → Units v s (significand_by h c t) (power_by p c)
-  units_high n u = rw (ne_eqb c 0 n) u
+  pub high : (c ≡ 0 → ⊥) → x ≡ record { significand = h + t; power = p + c - 1 } → Binary s c t h m p (Some v)
+  high n w = in_range l (rw (ne_eqb c 0 n) (rw w at u))
 
 equal_binary : (v : Float) (s : Bool) (c t h l p : ℕ) → p + l ≡ 1075 → Units v s (significand_by h c t) (power_by p c)
     → Equal v (if eqb c 0 then record { negative = s; m = t; e = minus 1 l } else record { negative = s; m = h + t; e = minus c l })
@@ -94,26 +92,23 @@ equal_binary v s c t h l p at = go (eqb c 0) refl
     go true e u = worth_over s t 1 l p (omega arith) v u.worth
     go false e u = worth_over s (h + t) c l (p + c - 1) (let k = eqb-false c 0 e in omega (arith, k)) v u.worth
 
-module _ (bits : ℕ) (r : Real) where
-  pub short_above : 254 < bits % 2 ^ 31 / 2 ^ 23 → r ≡ real none → r ≡ real (float_of short_binary bits)
-  unfolding characteristic
-  short_above h e = e ∙ ap real (sym (above_maximum short_binary bits h))
+module _ (cb fb bias m bits p : ℕ) (at : p + (bias + fb) ≡ 1075) where
+  abbrev f : Format
+  f = format two cb fb bias m
 
-  pub long_above : 2046 < bits % 2 ^ 63 / 2 ^ 52 → r ≡ real none → r ≡ real (float_of long_binary bits)
-  unfolding characteristic
-  long_above h e = e ∙ ap real (sym (above_maximum long_binary bits h))
+  two_way : {x : given.Option Float} → Binary (is_negative f bits) (characteristic f bits) (fraction f bits) (2 ^ fb) m p x → x ≡ option_of (float_of f bits)
+  unfolding number_of
+  two_way (in_range {v = v} h u) = ap option_of (sym (is_float f bits v h u.held (equal_binary v _ _ _ (2 ^ fb) (bias + fb) p at u)))
+  two_way (above h) = ap option_of (sym (above_maximum f bits h))
 
-  pub short_exact : (v : Float) (s : Bool) → bits % 2 ^ 31 / 2 ^ 23 ≤ 254 → s ≡ leb (2 ^ 31) bits
-      → Units v s (significand_by (2 ^ 23) (bits % 2 ^ 31 / 2 ^ 23) (bits % 2 ^ 23)) (power_by 925 (bits % 2 ^ 31 / 2 ^ 23)) → r ≡ real (some v) → r ≡ real (float_of short_binary bits)
-  unfolding number_of is_negative characteristic fraction
-  short_exact v s h q u e =
-      e ∙ ap real (sym (is_float short_binary bits v h u.held (rw q at (equal_binary v s (bits % 2 ^ 31 / 2 ^ 23) (bits % 2 ^ 23) (2 ^ 23) 150 925 (omega arith) u))))
+module _ (bits : ℕ) (x : given.Option Float) where
+  pub short_two : Binary (leb (2 ^ 31) bits) (bits % 2 ^ 31 / 2 ^ 23) (bits % 2 ^ 23) (2 ^ 23) 254 925 x → x ≡ option_of (float_of short_binary bits)
+  unfolding is_negative characteristic fraction
+  short_two b = two_way 8 23 127 254 bits 925 (omega arith) b
 
-  pub long_exact : (v : Float) (s : Bool) → bits % 2 ^ 63 / 2 ^ 52 ≤ 2046 → s ≡ leb (2 ^ 63) bits
-      → Units v s (significand_by (2 ^ 52) (bits % 2 ^ 63 / 2 ^ 52) (bits % 2 ^ 52)) (power_by 0 (bits % 2 ^ 63 / 2 ^ 52)) → r ≡ real (some v) → r ≡ real (float_of long_binary bits)
-  unfolding number_of is_negative characteristic fraction
-  long_exact v s h q u e =
-      e ∙ ap real (sym (is_float long_binary bits v h u.held (rw q at (equal_binary v s (bits % 2 ^ 63 / 2 ^ 52) (bits % 2 ^ 52) (2 ^ 52) 1075 0 (omega arith) u))))
+  pub long_two : Binary (leb (2 ^ 63) bits) (bits % 2 ^ 63 / 2 ^ 52) (bits % 2 ^ 52) (2 ^ 52) 2046 0 x → x ≡ option_of (float_of long_binary bits)
+  unfolding is_negative characteristic fraction
+  long_two b = two_way 11 52 1023 2046 bits 0 (omega arith) b
 
 -- HEXADECIMAL: an odd number is no smaller number times a power of two, at any scale
 odd_least : (m q a b : ℕ) → m < q → q % 2 ≡ 1 → m * 2 ^ a ≡ q * 2 ^ b → ⊥
@@ -124,27 +119,32 @@ odd_least m q (suc a) zero l o e = omega (arith, doubled m a)
 odd_least m q (suc a) (suc b) l o e = odd_least m q a b l o (omega (arith, doubled m a, doubled q b))
 
 module _ (s : Bool) (m p q r : ℕ) (same : q * 2 ^ r ≡ m * 2 ^ p) where
-  pub too_long_lem : (x : Real) → Narrow q → 2 ^ 53 ≤ q → x ≡ real none → Given s m p x
-  unfolding Narrow
-  too_long_lem x n l e =
-      rw e (over (λ a b h. at_least (2 ^ 53) a (λ k. odd_least a q (b + p) r (omega arith) (n l) (rw (pow-add, ← mul_assoc, ← h) (sym same)))))
+  pub too_long_lem : Narrow q → 2 ^ 53 ≤ q → Hexadecimal s m p None
+  too_long_lem n l = over (λ a b h. at_least (2 ^ 53) a (λ k. odd_least a q (b + p) r (omega arith) (n l) (rw (pow-add, ← mul_assoc, ← h) (sym same))))
 
-  pub short_enough : (x : Real) (v : Float) → Units v s q r → x ≡ real (some v) → Given s m p x
-  short_enough x v u e = rw e (exact (record { worth = rw same at u.worth; held = u.held }))
+  pub short_enough : (v : Float) → Units v s q r → Hexadecimal s m p (Some v)
+  short_enough v u = exact (record { worth = rw same at u.worth; held = u.held })
 
-given_way : (s : Bool) (m a l p : ℕ) (at : p + l ≡ a + 1074) {x : Real} → Given s m p x → x ≡ real (equal_float (number s m a l p at))
-given_way s m a l p at (exact {v = v} u) = ap real (sym (is_equal_float (number s m a l p at) v u.held (worth_over s m a l p at v u.worth)))
-given_way s m a l p at (over o) = ap real (sym (over_none (number s m a l p at) o))
+exactly : (s : Bool) (m a l p : ℕ) (at : p + l ≡ a + 1074) {x : given.Option Float} → Hexadecimal s m p x → x ≡ option_of (equal_float (number s m a l p at))
+exactly s m a l p at (exact {v = v} u) = ap option_of (sym (is_equal_float (number s m a l p at) v u.held (worth_over s m a l p at v u.worth)))
+exactly s m a l p at (over o) = ap option_of (sym (over_none (number s m a l p at) o))
 
-module _ (bits : ℕ) (s : Bool) (x : Real) where
-  pub short_sixteen : s ≡ leb (2 ^ 31) bits → Given s (bits % 2 ^ 24) (4 * (bits % 2 ^ 31 / 2 ^ 24) + 794) x → x ≡ real (float_of short_hexadecimal bits)
-  unfolding number_of is_negative characteristic fraction
-  short_sixteen q g =
-      rw q at (given_way s (bits % 2 ^ 24) (4 * (bits % 2 ^ 31 / 2 ^ 24)) 280 (4 * (bits % 2 ^ 31 / 2 ^ 24) + 794) (omega arith) g)
-      ∙ ap real (sym (in_range short_hexadecimal bits (omega arith)))
+module _ (cb fb bias m bits k : ℕ) (at : k + (4 * bias + fb) ≡ 1074) where
+  abbrev g : Format
+  g = format sixteen cb fb bias m
 
-  pub long_sixteen : s ≡ leb (2 ^ 63) bits → Given s (bits % 2 ^ 56) (4 * (bits % 2 ^ 63 / 2 ^ 56) + 762) x → x ≡ real (float_of long_hexadecimal bits)
-  unfolding number_of is_negative characteristic fraction
-  long_sixteen q g =
-      rw q at (given_way s (bits % 2 ^ 56) (4 * (bits % 2 ^ 63 / 2 ^ 56)) 312 (4 * (bits % 2 ^ 63 / 2 ^ 56) + 762) (omega arith) g)
-      ∙ ap real (sym (in_range long_hexadecimal bits (omega arith)))
+  sixteen_way : characteristic g bits ≤ m → {x : given.Option Float} → Hexadecimal (is_negative g bits) (fraction g bits) (4 * characteristic g bits + k) x
+      → x ≡ option_of (float_of g bits)
+  unfolding number_of
+  sixteen_way l h =
+      exactly (is_negative g bits) (fraction g bits) (4 * characteristic g bits) (4 * bias + fb) (4 * characteristic g bits + k) (omega arith) h
+      ∙ ap option_of (sym (forms.in_range g bits l))
+
+module _ (bits : ℕ) (x : given.Option Float) where
+  pub short_sixteen : Hexadecimal (leb (2 ^ 31) bits) (bits % 2 ^ 24) (4 * (bits % 2 ^ 31 / 2 ^ 24) + 794) x → x ≡ option_of (float_of short_hexadecimal bits)
+  unfolding is_negative characteristic fraction
+  short_sixteen h = sixteen_way 7 24 64 127 bits 794 (omega arith) (omega arith) h
+
+  pub long_sixteen : Hexadecimal (leb (2 ^ 63) bits) (bits % 2 ^ 56) (4 * (bits % 2 ^ 63 / 2 ^ 56) + 762) x → x ≡ option_of (float_of long_hexadecimal bits)
+  unfolding is_negative characteristic fraction
+  long_sixteen h = sixteen_way 7 56 64 127 bits 762 (omega arith) (omega arith) h

@@ -1,16 +1,9 @@
 -- A number and the 64-bit float that equals it, in units of the least float, 2 to the -1074.
-use Rattle.std.specs.Prelude.{◌≡◌, ℕ, ◌+◌, ◌-◌, ◌*◌, ◌%◌, ◌^◌, ◌≤◌, Bool, true, false, T, eqb, pos, Float, if◌then◌else◌}
-use Rattle.std.proofs.Math.Option.{Option, some, none}
-use Rattle.std.specs.Float.{fin, binary64}
+use Rattle.std.specs.Prelude.{◌≡◌, ℕ, ◌+◌, ◌-◌, ◌*◌, ◌%◌, ◌^◌, ◌≤◌, ◌<◌, Bool, T, eqb, Float, Option, Some, None, if◌then◌else◌}
+use Rattle.std.specs.Float.{binary64}
 use Rattle.std.specs.Float.Ieee.{fits}
 use Rattle.std.specs.Float.Ieee.Exact.{HasValue}
 use Rattle.fdoca.specs.Reasons.{Over53}
-use Rattle.floats.specs.declared.Real.{Real}
-
--- The answer: a float, or +0.
-abbrev pub real : Option Float → Real
-real (some v) = record { given = true; value = v }
-real none = record { given = false; value = fin false 0 (pos 0) }
 
 -- The 64-bit float v is m times 2 to the p units, with the sign s.
 pub record Units (v : Float) (s : Bool) (m p : ℕ) : Type 0 where
@@ -18,12 +11,12 @@ pub record Units (v : Float) (s : Bool) (m p : ℕ) : Type 0 where
   pub held : T (fits binary64 v)
 
 -- It is given, but where m has more than 53 significant bits.
-pub data Given (s : Bool) (m p : ℕ) : Real → Type 0 where
-  exact : {v : Float} → Units v s m p → Given s m p (real (some v))
-  over : Over53 m → Given s m p (real none)
+pub data Hexadecimal (s : Bool) (m p : ℕ) : Option Float → Type 0 where
+  exact : {v : Float} → Units v s m p → Hexadecimal s m p (Some v)
+  over : Over53 m → Hexadecimal s m p None
 
 -- A significand of at most 53 bits, or an odd one.
-unfoldable pub Narrow : ℕ → Type 0
+abbrev pub Narrow : ℕ → Type 0
 Narrow q = 2 ^ 53 ≤ q → q % 2 ≡ 1
 
 -- Significand and power of a binary float: `hidden` is the weight of the 1 before the fraction t, `power` that of the characteristic 1.
@@ -32,3 +25,8 @@ significand_by hidden c t = if eqb c 0 then t else hidden + t
 
 abbrev pub power_by : (power c : ℕ) → ℕ
 power_by power c = if eqb c 0 then power else power + c - 1
+
+-- It is given, but where its characteristic c is above the maximum.
+pub data Binary (s : Bool) (c t hidden maximum power : ℕ) : Option Float → Type 0 where
+  in_range : {v : Float} → c ≤ maximum → Units v s (significand_by hidden c t) (power_by power c) → Binary s c t hidden maximum power (Some v)
+  above : maximum < c → Binary s c t hidden maximum power None

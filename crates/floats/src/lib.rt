@@ -2,26 +2,34 @@
 
 #![tactic(auto)]
 
-ghost use Rattle.std.specs.Prelude.{◌≡◌, ◌+◌, ◌*◌, ◌^◌, ◌≤◌, ◌<◌};
-ghost use Rattle.std.proofs.Math.Option.{some, none};
+ghost use Rattle.std.specs.Prelude.{◌≡◌, ◌+◌, ◌*◌, ◌/◌, ◌%◌, ◌^◌, ◌≤◌, ◌<◌, nat_le};
 ghost use Rattle.std.specs.Float.{binary64};
 ghost use Rattle.std.specs.Float.Ieee.{of_fields};
-ghost use Rattle.fdoca.specs.Float.{short_hexadecimal, long_hexadecimal, short_binary, long_binary, float_of};
-ghost use Rattle.floats.specs.Reals.{real, Units, Given, Narrow, significand_by, power_by};
+ghost use Rattle.fdoca.specs.Float.{float_of};
+ghost use Rattle.fdoca.specs.Returned.{option_of};
+ghost use Rattle.floats.specs.Reals.{Units, Hexadecimal, Binary, Narrow};
+ghost use Rattle.floats.specs.Format.{format_of};
 
-// A 64-bit float, or, where `given` is false, 0.
-#[derive(Drop)]
-pub struct Real {
-    pub given: bool,
-    pub value: f64,
+// The formats: hexadecimal and binary, each of 4 and of 8 bytes.
+#[derive(Clone, Copy, Debug, PartialEq, Eq)]
+pub enum Format {
+    ShortHexadecimal,
+    LongHexadecimal,
+    ShortBinary,
+    LongBinary,
 }
 
-// A whole significand, and a power of two.
-#[derive(Drop)]
-pub struct Shifted {
-    pub significand: u64,
-    pub power: u64,
+// A whole significand, times a power of two.
+#[derive(Clone, Copy)]
+struct Scaled {
+    significand: u64,
+    power: u64,
 }
+
+// The sign bits of 4 and of 8 bytes.
+const SHORT: u64 = 0x8000_0000;
+
+const LONG: u64 = 0x8000_0000_0000_0000;
 
 // The least significand with a bit at the place of a 64-bit float's leading 1, and the least that is too long.
 const LEADING: u64 = 0x10_0000_0000_0000;
@@ -35,156 +43,119 @@ fn of_parts(negative: bool, characteristic: u64, fraction: u64) -> f64
 {
     let bits = characteristic * LEADING + fraction;
     if negative {
-        return f64::from_bits(0x8000_0000_0000_0000 + bits);
+        f64::from_bits(LONG + bits)
+    } else {
+        f64::from_bits(bits)
     }
-    f64::from_bits(bits)
 }
 
-// The same number with a leading 1, or else with the power 0.
-fn shifted_left(significand: u64, power: u64) -> Shifted
-    requires { significand < 2 ^ 53 }
-    ensures { (result.significand * 2 ^ result.power ≡ significand * 2 ^ power) × (result.significand < 2 ^ 53) × (result.power ≤ power) × (result.significand < 2 ^ 52 → result.power ≡ 0) }
-{
-    let mut q = significand;
-    let mut p = power;
-    while q < LEADING {
-        if p == 0 {
-            return Shifted {
-                significand: q,
-                power: p,
-            };
+impl Scaled {
+    ghost use Rattle.floats.specs.Scaled.{units_of};
+
+    // The same number with a leading 1, or else with the power 0.
+    fn shifted_left(self) -> Scaled
+        requires { self.significand < 2 ^ 53 }
+        ensures same { units_of result ≡ units_of self }
+        ensures at_most_53_bits { result.significand < 2 ^ 53 }
+        ensures power { result.power ≤ self.power }
+        ensures leading { result.significand < 2 ^ 52 → result.power ≡ 0 }
+    {
+        let mut shifted = self;
+        while shifted.significand < LEADING && 0 < shifted.power {
+            shifted.significand *= 2;
+            shifted.power -= 1;
         }
-        q = q * 2;
-        p -= 1;
+        shifted
     }
-    Shifted {
-        significand: q,
-        power: p,
-    }
-}
 
-// The same number with at most 53 bits, or else odd.
-fn shifted_right(significand: u64, power: u64) -> Shifted
-    requires { (significand < 2 ^ 56) × (power ≤ 2030) }
-    ensures { (result.significand * 2 ^ result.power ≡ significand * 2 ^ power) × Narrow result.significand × (result.power ≤ 2045) }
-{
-    let mut q = significand;
-    let mut p = power;
-    while TOO_LONG <= q {
-        if q % 2 == 1 {
-            return Shifted {
-                significand: q,
-                power: p,
-            };
+    // The same number with at most 53 bits, or else odd.
+    fn shifted_right(self) -> Scaled
+        requires significand { self.significand < 2 ^ 56 }
+        requires power { self.power ≤ 2030 }
+        ensures same { units_of result ≡ units_of self }
+        ensures narrow { Narrow result.significand }
+        ensures power { result.power ≤ 2045 }
+    {
+        let mut shifted = self;
+        while TOO_LONG <= shifted.significand && shifted.significand % 2 == 0 {
+            shifted.significand /= 2;
+            shifted.power += 1;
         }
-        q = q / 2;
-        p += 1;
+        shifted
     }
-    Shifted {
-        significand: q,
-        power: p,
+
+    // The float that it is in units of the least one, 2 to the -1074.
+    fn float(self, negative: bool) -> f64
+        requires significand { self.significand < 2 ^ 53 }
+        requires power { self.power ≤ 2045 }
+        ensures { Units result negative self.significand self.power }
+    {
+        if self.significand == 0 {
+            return of_parts(negative, 0, 0);
+        }
+        let shifted = self.shifted_left();
+        if shifted.significand < LEADING {
+            return of_parts(negative, 0, shifted.significand);
+        }
+        of_parts(negative, shifted.power + 1, shifted.significand - LEADING)
     }
 }
 
-// The float that is the significand times 2 to the power, in units of the least one, 2 to the -1074.
-fn scaled(negative: bool, significand: u64, power: u64) -> f64
-    requires { (significand < 2 ^ 53) × (power ≤ 2045) }
-    ensures { Units result negative significand power }
+// The float of a binary number, which has a 1 before its fraction where the characteristic is not 0, if the characteristic is at most `maximum`. `sign` is
+// the weight of its sign bit, `hidden` that of the 1, and `power` the power of the characteristic 1, which 0 has too.
+fn binary(bits: u64, sign: u64, hidden: u64, maximum: u64, power: u64) -> Option<f64>
+    requires weights { (0 < sign) × (0 < hidden) × (hidden ≤ 2 ^ 52) }
+    requires powers { (power ≤ 2045) × (maximum + power ≤ 2046) }
+    ensures { Binary (nat_le sign bits) (bits % sign / hidden) (bits % hidden) hidden maximum power result }
 {
-    if significand == 0 {
-        return of_parts(negative, 0, 0);
+    let characteristic = bits % sign / hidden;
+    if maximum < characteristic {
+        return None;
     }
-    let shifted = shifted_left(significand, power);
-    if shifted.significand < LEADING {
-        return of_parts(negative, 0, shifted.significand);
-    }
-    of_parts(negative, shifted.power + 1, shifted.significand - LEADING)
+    let fraction = bits % hidden;
+    let number = if characteristic == 0 {
+        Scaled {
+            significand: fraction,
+            power,
+        }
+    } else {
+        Scaled {
+            significand: hidden + fraction,
+            power: power + characteristic - 1,
+        }
+    };
+    Some(number.float(sign <= bits))
 }
 
-fn given(value: f64) -> Real
-    ensures { result ≡ real (some value) }
+// The float of a hexadecimal number, if the significant bits of its fraction are at most 53. `sign` is the weight of its sign bit, `unit` that of the
+// characteristic's last bit, and `power` the power of the characteristic 0.
+fn hexadecimal(bits: u64, sign: u64, unit: u64, power: u64) -> Option<f64>
+    requires weights { (0 < sign) × (0 < unit) × (unit ≤ 2 ^ 56) }
+    requires powers { 4 * (bits % sign / unit) + power ≤ 2030 }
+    ensures { Hexadecimal (nat_le sign bits) (bits % unit) (4 * (bits % sign / unit) + power) result }
 {
-    Real {
-        given: true,
-        value: value,
-    }
-}
-
-fn no_float() -> Real
-    ensures { result ≡ real none }
-{
-    Real {
-        given: false,
-        value: 0.0,
-    }
-}
-
-// The float of a binary number, which has a 1 before its fraction where the characteristic is not 0. `hidden` is the weight of that 1, and `power` that
-// of the characteristic 1, which 0 has too.
-fn binary(negative: bool, characteristic: u64, fraction: u64, hidden: u64, power: u64) -> f64
-    requires { (fraction < hidden) × (hidden ≤ 2 ^ 52) × (power ≤ 2045) × (characteristic + power ≤ 2046) }
-    ensures { Units result negative (significand_by hidden characteristic fraction) (power_by power characteristic) }
-{
-    if characteristic == 0 {
-        return scaled(negative, fraction, power);
-    }
-    scaled(negative, hidden + fraction, power + characteristic - 1)
-}
-
-// The float of a binary number of 4 bytes, where its characteristic is at most 254.
-pub fn short_binary(bits: u64) -> Real
-    ensures { result ≡ real (float_of short_binary bits) }
-{
-    let characteristic = bits % 0x8000_0000 / 0x80_0000;
-    if 254 < characteristic {
-        return no_float();
-    }
-    let negative = 0x8000_0000 <= bits;
-    given(binary(negative, characteristic, bits % 0x80_0000, 0x80_0000, 925))
-}
-
-// The float of a binary number of 8 bytes, where its characteristic is at most 2046.
-pub fn long_binary(bits: u64) -> Real
-    ensures { result ≡ real (float_of long_binary bits) }
-{
-    let characteristic = bits % 0x8000_0000_0000_0000 / LEADING;
-    if 2046 < characteristic {
-        return no_float();
-    }
-    let negative = 0x8000_0000_0000_0000 <= bits;
-    given(binary(negative, characteristic, bits % LEADING, LEADING, 0))
-}
-
-// The float of a fraction times 2 to the power, where its significant bits are at most 53.
-fn hexadecimal(negative: bool, fraction: u64, power: u64) -> Real
-    requires { (fraction < 2 ^ 56) × (power ≤ 2030) }
-    ensures { Given negative fraction power result }
-{
-    let narrow = shifted_right(fraction, power);
+    let characteristic = bits % sign / unit;
+    let number = Scaled {
+        significand: bits % unit,
+        power: 4 * characteristic + power,
+    };
+    let narrow = number.shifted_right();
     if TOO_LONG <= narrow.significand {
-        return no_float();
+        return None;
     }
-    given(scaled(negative, narrow.significand, narrow.power))
+    Some(narrow.float(sign <= bits))
 }
 
-// The float of a hexadecimal number of 4 bytes.
-pub fn short_hexadecimal(bits: u64) -> Real
-    ensures { result ≡ real (float_of short_hexadecimal bits) }
-{
-    let characteristic = bits % 0x8000_0000 / 0x100_0000;
-    let negative = 0x8000_0000 <= bits;
-    hexadecimal(negative, bits % 0x100_0000, 4 * characteristic + 794)
-}
-
-// The float of a hexadecimal number of 8 bytes, if there is one.
-pub fn long_hexadecimal(bits: u64) -> Real
-    ensures { result ≡ real (float_of long_hexadecimal bits) }
-{
-    let characteristic = bits % 0x8000_0000_0000_0000 / 0x100_0000_0000_0000;
-    let negative = 0x8000_0000_0000_0000 <= bits;
-    hexadecimal(
-        negative,
-        bits % 0x100_0000_0000_0000,
-        4 * characteristic + 762,
-    )
+impl Format {
+    // The float of the bits, if one has exactly their value.
+    pub fn float_of(self, bits: u64) -> Option<f64>
+        ensures { result ≡ option_of (float_of (format_of self) bits) }
+    {
+        match self {
+            Format::ShortHexadecimal => hexadecimal(bits, SHORT, 0x100_0000, 794),
+            Format::LongHexadecimal => hexadecimal(bits, LONG, 0x100_0000_0000_0000, 762),
+            Format::ShortBinary => binary(bits, SHORT, 0x80_0000, 254, 925),
+            Format::LongBinary => binary(bits, LONG, LEADING, 2046, 0),
+        }
+    }
 }

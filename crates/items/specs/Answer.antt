@@ -1,8 +1,9 @@
 -- Steps of the papers' definitions of an item's measuring.
-use Rattle.std.specs.Prelude.{ℕ, ◌+◌, ◌-◌, Bool, true, false, List, [], ◌∷◌, leb, eqb, if◌then◌else◌}
+use Rattle.std.specs.Prelude.{ℕ, ◌-◌, Bool, true, false, List, [], ◌∷◌, leb, eqb, if◌then◌else◌, Option, Some, None, Result, Ok, Err}
+use Rattle.fdoca.specs.declared.Reason.{Reason}
 use Rattle.fdoca.specs.Item.{refused, item, Space, is_over, measure_body}
 use Rattle.fdoca.specs.Item as defined
-use Rattle.terminated.specs.declared.Measured.{Measured}
+use Rattle.fdoca.specs.Returned.{number_of}
 
 -- Of `size` bytes that are sent behind a length field of w bytes, the first L are the value.
 unfoldable pub measure_sent : (w L size left : ℕ) → defined.Measured
@@ -18,8 +19,8 @@ measure_indicator false s = item false 0 0 0
 measure_indicator true [] = refused 13
 measure_indicator true (b ∷ s) = if eqb b 0 then item false 1 0 0 else if leb 128 b then item true 1 0 0 else refused 24
 
--- An answer whose item stands behind `skip` bytes, with them.
-unfoldable pub moved_by : (skip : ℕ) → Measured → Measured
-moved_by skip m =
-    if eqb m.number 0 then record { number = 0; null = m.null; lead = m.lead + skip; value = m.value; spare = m.spare }
-    else m
+-- What is told of a null indicator: the bytes that a value stands behind, or a null.
+abbrev pub told : Result (Option ℕ) Reason → defined.Measured
+told (Err r) = refused (number_of r)
+told (Ok None) = item true 1 0 0
+told (Ok (Some k)) = item false k 0 0

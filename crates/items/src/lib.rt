@@ -2,154 +2,128 @@
 
 #![tactic(auto)]
 
-ghost use Rattle.std.specs.Prelude.{◌≡◌, ◌+◌, ◌<◌, ◌≤◌};
+ghost use Rattle.std.specs.Prelude.{◌≡◌, ◌≤◌};
 ghost use Rattle.fdoca.specs.FieldType.{signed_two, unsigned_one};
 ghost use Rattle.fdoca.specs.Item.{space, measure_fixed, measure_counted, measure_value, measure_item};
-ghost use Rattle.field_types.specs.Rows.{layout_of};
-ghost use Rattle.terminated.specs.Answer.{answer};
-ghost use Rattle.items.specs.Answer.{measure_sent, measure_ranged, measure_indicator, moved_by};
+ghost use Rattle.field_types.specs.Layouts.{layout_of, layout_by};
+ghost use Rattle.terminated.specs.Answer.{measured};
+ghost use Rattle.items.specs.Answer.{measure_sent, measure_ranged, measure_indicator, told};
 
-use terminated::{Measured, SHORT_DATA, found, refusal};
-
-// The length field is below 0, or over a field length above 0.
-const BAD_COUNT: u8 = 14;
-
-// The null indicator is X'01' to X'7F'.
-const BAD_INDICATOR: u8 = 24;
+use fdoca::Reason;
+use field_types::Layout;
+use terminated::Measured;
 
 // A value of F bytes, which is the whole item of a form without a null indicator.
-pub fn fixed_value(s: &[u8], f: usize) -> Measured
-    ensures { result ≡ answer (measure_fixed f s.now) }
+#[tactic(auto, unfolding(fdoca::specs::Item::measure_fixed))]
+pub fn fixed_value(s: &[u8], f: usize) -> Result<Measured, Reason>
+    ensures { measured result ≡ measure_fixed f s.now }
 {
     if f <= s.len() {
-        return found(0, f, 0);
+        Ok(Measured::with_value(0, f, 0))
+    } else {
+        Err(Reason::ShortData)
     }
-    refusal(SHORT_DATA)
 }
 
 // Behind a length field of `width` bytes `size` bytes are sent, of which the first `l` are the value; `left` bytes are there.
-fn sent(width: usize, l: usize, size: usize, left: usize) -> Measured
+#[tactic(auto, unfolding(crate::specs::Answer::measure_sent))]
+fn sent(width: usize, l: usize, size: usize, left: usize) -> Result<Measured, Reason>
     requires { l ≤ size }
-    ensures { result ≡ answer (measure_sent width l size left) }
+    ensures { measured result ≡ measure_sent width l size left }
 {
     if size <= left {
-        return found(width, l, size - l);
+        Ok(Measured::with_value(width, l, size - l))
+    } else {
+        Err(Reason::ShortData)
     }
-    refusal(SHORT_DATA)
 }
 
 // Behind a length field that says `l`: its range, then the body, which has F bytes in mode 0 with F above 0.
-fn ranged(width: usize, l: usize, left: usize, mode: u8, f: usize) -> Measured
-    ensures { result ≡ answer (measure_ranged (space mode f) width l left) }
+#[tactic(auto, using(crate::proofs::Ways::ranged_ways))]
+fn ranged(width: usize, l: usize, left: usize, mode: u8, f: usize) -> Result<Measured, Reason>
+    ensures { measured result ≡ measure_ranged (space mode f) width l left }
 {
-    if f == 0 {
-        return sent(width, l, l, left);
+    match (f, mode) {
+        (0, _) => sent(width, l, l, left),
+        _ if f < l => Err(Reason::BadCount),
+        (_, 0) => sent(width, l, f, left),
+        _ => sent(width, l, l, left),
     }
-    if f < l {
-        return refusal(BAD_COUNT);
-    }
-    if mode == 0 {
-        return sent(width, l, f, left);
-    }
-    sent(width, l, l, left)
 }
 
 // A length field of one byte, unsigned.
-fn counted_one(s: &[u8], mode: u8, f: usize) -> Measured
-    ensures { result ≡ answer (measure_counted unsigned_one (space mode f) s.now) }
+#[tactic(auto, using(crate::proofs::Ways::counted_ways))]
+fn counted_one(s: &[u8], mode: u8, f: usize) -> Result<Measured, Reason>
+    ensures { measured result ≡ measure_counted unsigned_one (space mode f) s.now }
 {
-    if s.len() < 1 {
-        return refusal(SHORT_DATA);
-    }
-    ranged(1, numbers::wide(s[0]), s.len() - 1, mode, f)
+    let [l, body @ ..] = s else {
+        return Err(Reason::ShortData);
+    };
+    ranged(1, usize::from(*l), body.len(), mode, f)
 }
 
 // A length field of two bytes, signed, most significant first.
-fn counted_two(s: &[u8], mode: u8, f: usize) -> Measured
-    ensures { result ≡ answer (measure_counted signed_two (space mode f) s.now) }
+#[tactic(auto, using(crate::proofs::Ways::counted_ways))]
+fn counted_two(s: &[u8], mode: u8, f: usize) -> Result<Measured, Reason>
+    ensures { measured result ≡ measure_counted signed_two (space mode f) s.now }
 {
-    if s.len() < 2 {
-        return refusal(SHORT_DATA);
+    let [high, low, body @ ..] = s else {
+        return Err(Reason::ShortData);
+    };
+    if 128 <= *high {
+        return Err(Reason::BadCount);
     }
-    let high = s[0];
-    if 128 <= high {
-        return refusal(BAD_COUNT);
-    }
-    let l = numbers::wide(high) * 256 + numbers::wide(s[1]);
-    ranged(2, l, s.len() - 2, mode, f)
+    let l = usize::from(*high) * 256 + usize::from(*low);
+    ranged(2, l, body.len(), mode, f)
 }
 
-// An item without null indicator, or what follows one.
-fn value(s: &[u8], layout: u8, mode: u8, f: usize) -> Measured
-    ensures { result ≡ answer (measure_value (layout_of layout) mode f s.now) }
+// An item without null indicator, or what follows one. Inlined, like `measure`, since the walk is faster with all of it in its loop.
+#[inline(always)]
+#[tactic(auto, unfolding(fdoca::specs::Item::measure_value, field_types::specs::Layouts::layout_of))]
+fn value(s: &[u8], layout: Layout, mode: u8, f: usize) -> Result<Measured, Reason>
+    ensures { measured result ≡ measure_value (layout_of layout) mode f s.now }
 {
-    if layout == 0 {
-        return fixed_value(s, f);
+    match layout {
+        Layout::Fixed | Layout::Digits => fixed_value(s, f),
+        Layout::Short => counted_one(s, mode, f),
+        Layout::Long => counted_two(s, mode, f),
+        Layout::Terminated => terminated::terminated_value(s, mode, f),
     }
-    if layout == 1 {
-        return counted_one(s, mode, f);
-    }
-    if layout == 2 {
-        return counted_two(s, mode, f);
-    }
-    terminated::terminated_value(s, mode, f)
 }
 
-// What the null indicator tells: no item, for want of it or since it is bad, a null, which is that byte alone, or how many bytes the value stands behind.
-fn indicator(s: &[u8], nullable: bool) -> Measured
-    ensures { result ≡ answer (measure_indicator nullable s.now) }
+// What the null indicator tells: how many bytes the value stands behind, or that there is none since the item is null.
+#[tactic(auto, using(crate::proofs::Ways::indicator_ways), unfolding(crate::specs::Answer::measure_indicator))]
+fn indicator(s: &[u8], nullable: bool) -> Result<Option<usize>, Reason>
+    ensures { told result ≡ measure_indicator nullable s.now }
 {
     if !nullable {
-        return found(0, 0, 0);
+        return Ok(Some(0));
     }
-    if s.len() == 0 {
-        return refusal(SHORT_DATA);
-    }
-    let told = s[0];
-    if told == 0 {
-        return found(1, 0, 0);
-    }
-    if told < 128 {
-        return refusal(BAD_INDICATOR);
-    }
-    Measured {
-        number: 0,
-        null: true,
-        lead: 1,
-        value: 0,
-        spare: 0,
+    match s {
+        [] => Err(Reason::ShortData),
+        [0, ..] => Ok(Some(1)),
+        [1..=127, ..] => Err(Reason::BadIndicator),
+        _ => Ok(None),
     }
 }
 
-// What was measured behind `skip` bytes, with them.
-fn behind(m: Measured, skip: usize) -> Measured
-    requires { m.lead + skip < 18446744073709551616 }
-    ensures { result ≡ moved_by skip m }
+// The item at the start of `s`. The layout is a number here: an entry of a plan holds it so, and measuring answers for every number.
+#[inline(always)]
+#[tactic(auto, using(crate::proofs::Ways::measured_ways))]
+pub fn measure(s: &[u8], nullable: bool, layout: u8, mode: u8, f: usize) -> Result<Measured, Reason>
+    ensures { measured result ≡ measure_item nullable (layout_by layout) mode f s.now }
 {
-    if m.number != 0 {
-        return m;
-    }
-    Measured {
-        number: 0,
-        null: m.null,
-        lead: m.lead + skip,
-        value: m.value,
-        spare: m.spare,
-    }
-}
-
-// The item at the start of `s`. Its layout is 0 for a value of F bytes, 1 or 2 for a length field of so many bytes, and else a value
-// that ends before a zero byte.
-pub fn measure(s: &[u8], nullable: bool, layout: u8, mode: u8, f: usize) -> Measured
-    ensures { result ≡ answer (measure_item nullable (layout_of layout) mode f s.now) }
-{
-    let told = indicator(s, nullable);
-    if told.number != 0 {
-        return told;
-    }
-    if told.null {
-        return told;
-    }
-    let skip = told.lead;
-    behind(value(&s[skip..], layout, mode, f), skip)
+    let Some(skip) = indicator(s, nullable)? else {
+        return Ok(Measured {
+            null: true,
+            lead: 1,
+            value: 0,
+            spare: 0,
+        });
+    };
+    let item = value(&s[skip..], Layout::of_number(layout), mode, f)?;
+    Ok(Measured {
+        lead: skip + item.lead,
+        ..item
+    })
 }

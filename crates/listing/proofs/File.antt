@@ -2,17 +2,19 @@
 -- Assumes nothing.
 use Rattle.std.specs.Prelude.{if◌then◌else◌}
 use mathlib.Core.Path.{◌≡◌, refl, sym, ap, ◌∙◌}
+use mathlib.Core.Logic.{◌⊎◌, inl, inr}
 use Prim.Native.Nat.{ℕ, ◌+◌, ◌-◌, ◌*◌, ◌<◌, ◌≤◌}
 use native.Mathlib.Omega.{arith}
 use mathlib.Core.Bool.{Bool, true, false, ◌||◌, not, or-true}
 use mathlib.Core.List.{List, [], ◌∷◌, ◌++◌}
 use lib.Dec.{ltb, eqb}
 use lib.ListN.{length, get_or, take, drop, length-append, length-drop}
-use lib.Seq.{sets, length-take-le, take-append-le, drop-append-le}
+use lib.Seq.{length-take-le, take-append-le, drop-append-le}
 use borrow.Author.Rules.{part_to_end}
 use borrow.Author.Tests.{lt-ltb, le-ltb, eq-eqb, ne_eqb, ltb-false}
 use Rattle.fdoca.specs.Basics.{big, in_base}
 use Rattle.fdoca.specs.Dump.{refused_line, first_size, second_size, text_of, block_notes, dump}
+use Rattle.listing.specs.declared.Text.{Text}
 use Rattle.listing.specs.Put.{Put, Told}
 
 -- ---- `size_in`
@@ -26,52 +28,56 @@ four_bytes_lem (w ∷ x ∷ y ∷ []) a b l e f = absurd (let z : ⊥ = omega ar
 four_bytes_lem (w ∷ x ∷ y ∷ z ∷ []) a b l e f = omega arith
 four_bytes_lem (w ∷ x ∷ y ∷ z ∷ v ∷ s) a b l e f = absurd (let z : ⊥ = omega arith in z)
 
--- ---- `write_dump`
+-- ---- `write_file`
 
 pub first_four : (f : List ℕ) → 8 ≤ length f → 4 ≡ length (take 4 f)
 first_four f h = sym (length-take-le 4 f (omega arith))
 
-module _ (f t t' : List ℕ) (r : ℕ) where
-  -- the dump was put at the beginning
+module _ (f : List ℕ) (t t' : Text) (z : t.len ≡ 0) where
+  -- the dump was put
   pub record Dumped : Type 0 where
-    put : Put t t' 0 r (dump f)
-    fits : r ≤ 90112
+    put : Put t t' (dump f)
+    fits : t'.len ≤ 90112
 
-  -- what `write_dump` ensures
-  pub all_said : Dumped → (r ≡ length (dump f)) × (t' ≡ sets t 0 (dump f)) × (r ≤ 90112)
-  all_said d = (d.put.place ∙ omega arith, d.put.text, d.fits)
+  -- what `write_file` ensures
+  pub all_said : Dumped → Put t t' (dump f) × (t'.len ≤ 90112)
+  all_said d = (d.put, d.fits)
 
-  dumped : (x : List ℕ) → dump f ≡ x → Put t t' 0 r x → r ≤ 90112 → Dumped
+  dumped : (x : List ℕ) → dump f ≡ x → Put t t' x → t'.len ≤ 90112 → Dumped
   dumped x e p l = record { put = rw e p; fits = l }
 
-  pub short_file : length f < 8 → Put t t' 0 r (refused_line 19 0) → r ≤ 30 → Dumped
+  pub short_file : length f < 8 → Put t t' (refused_line 19 0) → t'.len ≤ t.len + 30 → Dumped
   unfolding dump
   short_file h p l = dumped (refused_line 19 0) (rw (lt-ltb (length f) 8 h)) p (omega arith)
 
   module _ (a b : ℕ) (h : 8 ≤ length f) (ea : a ≡ big (take 4 f)) (eb : b ≡ big (take 4 (drop 4 f))) where
-    pub large_descriptor : 4096 < a → Put t t' 0 r (refused_line 1 0) → r ≤ 30 → Dumped
+    large_descriptor : 4096 < a → Put t t' (refused_line 1 0) → t'.len ≤ t.len + 30 → Dumped
     unfolding dump
     large_descriptor m p l = dumped (refused_line 1 0) (rw (le-ltb (length f) 8 h, ← ea, lt-ltb 4096 a m)) p (omega arith)
 
-    pub large_data : 32768 < b → Put t t' 0 r (refused_line 1 0) → r ≤ 30 → Dumped
+    large_data : 32768 < b → Put t t' (refused_line 1 0) → t'.len ≤ t.len + 30 → Dumped
     unfolding dump
     large_data m p l =
         dumped (refused_line 1 0) (rw (le-ltb (length f) 8 h, ← eb, lt-ltb 32768 b m, or-true (ltb 4096 (big (take 4 f))))) p (omega arith)
 
+    pub large_file : (4096 < a) ⊎ ((a ≤ 4096) × (32768 < b)) → Put t t' (refused_line 1 0) → t'.len ≤ t.len + 30 → Dumped
+    large_file (inl m) p l = large_descriptor m p l
+    large_file (inr m) p l = large_data m.1 p l
+
     module _ (sa : a ≤ 4096) (sb : b ≤ 32768) where
-      pub other_length : (length f ≡ 8 + a + b → ⊥) → Put t t' 0 r (refused_line 19 0) → r ≤ 30 → Dumped
+      pub other_length : (length f ≡ 8 + a + b → ⊥) → Put t t' (refused_line 19 0) → t'.len ≤ t.len + 30 → Dumped
       unfolding dump
       other_length n p l =
           dumped (refused_line 19 0)
           (rw (le-ltb (length f) 8 h, ← ea, ← eb, le-ltb 4096 a sa, le-ltb 32768 b sb, ne_eqb (length f) (8 + a + b) n)) p (omega arith)
 
-      pub whole_file : length f ≡ 8 + a + b → Told t t' r (length (take (length f - (8 + a)) (drop (8 + a) f))) (block_notes (take (8 + a - 8) (drop 8 f)) (take (length f - (8 + a)) (drop (8 + a) f)))
+      pub whole_file : length f ≡ 8 + a + b → Told t t' (length (take (length f - (8 + a)) (drop (8 + a) f))) (block_notes (take (8 + a - 8) (drop 8 f)) (take (length f - (8 + a)) (drop (8 + a) f)))
           → Dumped
       unfolding dump
       whole_file n w =
           let x : 8 + a - 8 ≡ a = omega arith in
-          let z : length (drop (8 + a) f) ≡ b = omega (arith, length-drop (8 + a) f) in
-          let v : Told t t' r b (block_notes (take a (drop 8 f)) (drop (8 + a) f)) = rw (x, part_to_end f (8 + a), z) at w in
+          let y : length (drop (8 + a) f) ≡ b = omega (arith, length-drop (8 + a) f) in
+          let v : Told t t' b (block_notes (take a (drop 8 f)) (drop (8 + a) f)) = rw (x, part_to_end f (8 + a), y) at w in
           dumped (text_of b (block_notes (take a (drop 8 f)) (drop (8 + a) f)))
           (rw (le-ltb (length f) 8 h, ← ea, ← eb, le-ltb 4096 a sa, le-ltb 32768 b sb, eq-eqb (length f) (8 + a + b) n)) v.put v.fits
 

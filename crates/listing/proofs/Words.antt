@@ -9,48 +9,50 @@ use mathlib.Core.List.{List, [], ◌∷◌, ◌++◌}
 use lib.ListN.{length, length-append}
 use lib.Seq.{append_snoc}
 use Rattle.fdoca.specs.Dump.{decimal, items_word, bytes_word, null_word, refused_word, refused_line}
+use Rattle.fdoca.specs.Item.{item}
 use Rattle.terminated.specs.declared.Measured.{Measured}
+use Rattle.listing.specs.declared.Text.{Text}
 use Rattle.listing.specs.Put.{Put}
 use Rattle.listing.specs.Lines.{first_line, start_in, code_in, entry_line}
 use Rattle.listing.proofs.Decimal.{few_digits}
 use Rattle.listing.proofs.Putting.{both}
 
 -- a word and a space, with more behind them
-spaced : (xs : List ℕ) {t u v ys : List ℕ} {at m r : ℕ} → Put t u at m (xs ++ (32 ∷ [])) → Put u v m r ys → Put t v at r (xs ++ (32 ∷ ys))
+spaced : (xs : List ℕ) {t u v : Text} {ys : List ℕ} → Put t u (xs ++ (32 ∷ [])) → Put u v ys → Put t v (xs ++ (32 ∷ ys))
 spaced xs {ys = ys} p q = rw (append_snoc xs 32 ys) at (both p q)
 
-pub refusal_put : (t u v t' : List ℕ) (a b r n p : ℕ) → Put t u 0 a (refused_word ++ (32 ∷ [])) → Put u v a b (decimal n ++ (32 ∷ []))
-    → Put v t' b r (decimal p ++ (10 ∷ [])) → Put t t' 0 r (refused_line n p)
+pub refusal_put : (t u v t' : Text) (m n p : ℕ) → m ≡ n → Put t u (refused_word ++ (32 ∷ [])) → Put u v (decimal m ++ (32 ∷ []))
+    → Put v t' (decimal p ++ (10 ∷ [])) → Put t t' (refused_line n p)
 unfolding refused_line
-refusal_put t u v t' a b r n p x y z = spaced refused_word x (spaced (decimal n) y z)
+refusal_put t u v t' m n p e x y z = rw (← e) (spaced refused_word x (spaced (decimal m) y z))
 
-pub first_put : (t u v w t' : List ℕ) (a b c r count size : ℕ) → Put t u 0 a (items_word ++ (32 ∷ [])) → Put u v a b (decimal count ++ (32 ∷ []))
-    → Put v w b c (bytes_word ++ (32 ∷ [])) → Put w t' c r (decimal size ++ (10 ∷ [])) → Put t t' 0 r (first_line count size)
+pub first_put : (t u v w t' : Text) (count size : ℕ) → Put t u (items_word ++ (32 ∷ [])) → Put u v (decimal count ++ (32 ∷ []))
+    → Put v w (bytes_word ++ (32 ∷ [])) → Put w t' (decimal size ++ (10 ∷ [])) → Put t t' (first_line count size)
 unfolding first_line
-first_put t u v w t' a b c r count size x y z l = spaced items_word x (spaced (decimal count) y (spaced bytes_word z l))
+first_put t u v w t' count size x y z l = spaced items_word x (spaced (decimal count) y (spaced bytes_word z l))
 
 -- an item's value length, or `null`
-abbrev value_word : Bool → ℕ → List ℕ
-value_word null value = if null then null_word else decimal value
+abbrev length_or_null : Bool → ℕ → List ℕ
+length_or_null null value = if null then null_word else decimal value
 
-module _ (t t' : List ℕ) (at r : ℕ) (null : Bool) (value : ℕ) where
-  pub null_put : null ≡ true → Put t t' at r (null_word ++ (10 ∷ [])) → Put t t' at r (value_word null value ++ (10 ∷ []))
+module _ (t t' : Text) (null : Bool) (value : ℕ) where
+  pub null_put : null ≡ true → Put t t' (null_word ++ (10 ∷ [])) → Put t t' (length_or_null null value ++ (10 ∷ []))
   null_put e p = rw e p
 
-  pub length_put : null ≡ false → Put t t' at r (decimal value ++ (10 ∷ [])) → Put t t' at r (value_word null value ++ (10 ∷ []))
+  pub length_put : null ≡ false → Put t t' (decimal value ++ (10 ∷ [])) → Put t t' (length_or_null null value ++ (10 ∷ []))
   length_put e p = rw e p
 
-pub item_put : (t u v w t' : List ℕ) (at a b c r k e : ℕ) (m : Measured) → Put t u at a (decimal k ++ (32 ∷ [])) → Put u v a b (decimal (start_in e) ++ (32 ∷ []))
-    → Put v w b c (decimal (code_in e) ++ (32 ∷ [])) → Put w t' c r (value_word m.null m.value ++ (10 ∷ [])) → Put t t' at r (entry_line k e m)
+pub item_put : (t u v w t' : Text) (k e : ℕ) (m : Measured) → Put t u (decimal k ++ (32 ∷ [])) → Put u v (decimal (start_in e) ++ (32 ∷ []))
+    → Put v w (decimal (code_in e) ++ (32 ∷ [])) → Put w t' (length_or_null m.null m.value ++ (10 ∷ [])) → Put t t' (entry_line k e (item m.null m.lead m.value m.spare))
 unfolding entry_line
-item_put t u v w t' at a b c r k e m x y z l = spaced (decimal k) x (spaced (decimal (start_in e)) y (spaced (decimal (code_in e)) z l))
+item_put t u v w t' k e m x y z l = spaced (decimal k) x (spaced (decimal (start_in e)) y (spaced (decimal (code_in e)) z l))
 
 -- an item's line has at most 21 bytes
-value_long : (null : Bool) (value : ℕ) → value ≤ 32768 → length (value_word null value) ≤ 5
+value_long : (null : Bool) (value : ℕ) → value ≤ 32768 → length (length_or_null null value) ≤ 5
 value_long true value h = omega arith
 value_long false value h = few_digits 4 value (omega arith)
 
-pub entry_long : (k e : ℕ) (m : Measured) → k < 4096 → start_in e ≤ 32768 → m.value ≤ 32768 → length (entry_line k e m) ≤ 21
+pub entry_long : (k e : ℕ) (m : Measured) → k < 4096 → start_in e ≤ 32768 → m.value ≤ 32768 → length (entry_line k e (item m.null m.lead m.value m.spare)) ≤ 21
 unfolding entry_line
 entry_long k e m h i j =
     let d : length (decimal k) ≤ 4 = few_digits 3 k (omega arith) in

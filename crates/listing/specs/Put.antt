@@ -4,13 +4,24 @@ use Rattle.std.proofs.lemmas.List.Edits.{sets}
 use Rattle.fdoca.specs.Basics.{Result}
 use Rattle.fdoca.specs.Walk.{Note}
 use Rattle.fdoca.specs.Dump.{text_of}
+use Rattle.listing.specs.declared.Text.{Text}
 
--- The bytes bs were put into the text t from `at` on, and no others: it is then t', and the place behind them is r.
-pub record Put (t t' : List ℕ) (at r : ℕ) (bs : List ℕ) : Type 0 where
-  pub text : t' ≡ sets t at bs
-  pub place : r ≡ at + length bs
+-- n bytes more fit.
+abbrev pub HasRoom : Text → ℕ → Type 0
+HasRoom t n = t.len + n ≤ length t.bytes.now
 
--- The text of a block, by what the walk notes of its `size` bytes of data, was put at the beginning.
-pub record Told (t t' : List ℕ) (r size : ℕ) (x : Result (List Note)) : Type 0 where
-  pub put : Put t t' 0 r (text_of size x)
-  pub fits : r ≤ 90112
+-- Nothing is written yet, and each text of a file fits.
+abbrev pub IsFresh : Text → Type 0
+IsFresh t = (t.len ≡ 0) × (90112 ≤ length t.bytes.now)
+
+-- The bytes bs were put behind those that were written in t, and no others: it is then t'.
+pub record Put (t t' : Text) (bs : List ℕ) : Type 0 where
+  pub same_reference : t'.bytes.ghost_name ≡ t.bytes.ghost_name
+  pub same_length : length t'.bytes.now ≡ length t.bytes.now
+  pub text : t'.bytes.now ≡ sets t.bytes.now t.len bs
+  pub place : t'.len ≡ t.len + length bs
+
+-- The text of a block, by what the walk notes of its `size` bytes of data, was put.
+pub record Told (t t' : Text) (size : ℕ) (x : Result (List Note)) : Type 0 where
+  pub put : Put t t' (text_of size x)
+  pub fits : t'.len ≤ 90112

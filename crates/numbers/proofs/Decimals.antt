@@ -1,32 +1,28 @@
 -- A packed decimal: its half-bytes, its digits by Horner's rule, its sign, and the ways through `packed`.
 -- Assumes nothing.
-use Rattle.std.specs.Prelude.{if◌then◌else◌}
+use Rattle.std.specs.Prelude.{Some, None, ℤ, if◌then◌else◌}
+use Rattle.std.specs.Prelude as given
 use mathlib.Core.Path.{◌≡◌, refl, sym, ap, ◌∙◌}
-use Prim.Native.Nat.{ℕ, zero, suc, ◌+◌, ◌*◌, ◌/◌, ◌%◌, ◌<◌, ◌≤◌, ◌^◌}
+use Prim.Native.Nat.{ℕ, ◌+◌, ◌*◌, ◌/◌, ◌%◌, ◌<◌, ◌≤◌, ◌^◌}
 use native.Mathlib.Nat.{pow-le-pow_right}
 use native.Mathlib.Numerals.{add-one}
 use native.Mathlib.Omega.{arith}
-use mathlib.Core.Bool.{Bool, true, false, ◌&&◌, and-false}
+use mathlib.Core.Bool.{Bool, true, false, and-false}
 use mathlib.Core.List.{List, [], ◌∷◌}
 use mathlib.Core.Option.{Option, none, some}
-use mathlib.Core.Logic.{◌⊎◌, inl, inr}
-use lib.Dec.{ltb, eqb, lit<, lit≤}
-use lib.IntN.{pos, ◌-ℤ◌}
+use lib.Dec.{lit<, lit≤}
 use lib.ListN.{length, get_or, take, drop, length-drop, length-take}
 use lib.Seq.{take-suc, take_all, get_or-take, get_or-drop, length-take-le}
 use mir.Syntax.{w64}
-use mir.Val.{Fits, SFits, to_z, of_z}
-use mir.ValLaws.{to_z-of_z}
-use borrow.Author.Tests.{lt-ltb, le-ltb, ne_eqb}
+use mir.Val.{Fits}
+use borrow.Author.Tests.{lt-ltb}
 use Rattle.fdoca.specs.Basics.{lookup, in_base}
-use Rattle.fdoca.specs.Packed.{half_bytes, Sign, plus, minus, signs, all_below, read_digits, unused_before, packed_number}
-use Rattle.fdoca.proofs.Table.{end, ◌&◌, found_as}
-use Rattle.fdoca.proofs.Packed.{length_halves, halves_at, below_append, below_at, no_sign, sign_high}
-use Rattle.numbers.specs.declared.Unpacked.{Unpacked}
-use Rattle.numbers.specs.Packed.{unpacked, magnitude_of, signed_by}
+use Rattle.fdoca.specs.Packed.{half_bytes, Sign, signs, with_sign, all_below, read_digits, unused_before, packed_number}
+use Rattle.fdoca.proofs.Packed.{length_halves, halves_at, below_append, below_at}
+use Rattle.fdoca.specs.Returned.{option_of}
+use Rattle.numbers.specs.Packed.{magnitude_of, signed_by}
 use Rattle.fdoca.proofs.Digits.{base_below}
 use Rattle.numbers.proofs.Big.{one_more, room, taken_more}
-use Rattle.numbers.proofs.Sign.{below, plain}
 
 -- the ways through `half`
 module _ (s : List ℕ) (i b : ℕ) (e : b ≡ get_or s (i / 2) 0) where
@@ -40,16 +36,6 @@ module _ (s : List ℕ) (i b : ℕ) (e : b ≡ get_or s (i / 2) 0) where
       let k : i ≡ 2 * (i / 2) + 1 = omega arith in
       ap (λ n. n % 16) e ∙ sym (ap (λ n. get_or (half_bytes s) n 0) k ∙ (halves_at s (i / 2)).1)
 
--- the half-byte before an even number of digits
-pub one_unused : (s : List ℕ) (u h : ℕ) → u ≤ 1 → (u ≡ 0 → ⊥) → 0 < length s → h ≡ get_or (half_bytes s) 0 0 → eqb h 0 ≡ all_below 1 (take u (half_bytes s))
-unfolding half_bytes
-one_unused [] u h l n k e = absurd (let z : ⊥ = omega arith in z)
-one_unused (b ∷ s) u h l n k e = let q : u ≡ 1 = omega arith in rw (q, ← e) (go h)
-  where
-    go : (h : ℕ) → eqb h 0 ≡ (ltb h 1 && true)
-    go zero = refl
-    go (suc h) = rw (ne_eqb (suc h) 0 (λ e. omega arith), le-ltb (suc h) 1 (omega arith))
-
 -- the digits from a half-byte on
 module _ (s : List ℕ) (from p : ℕ) where
   abbrev pub digits_from : List ℕ
@@ -62,11 +48,11 @@ module _ (s : List ℕ) (from p : ℕ) where
     digit_at : (i d : ℕ) → i < p → d ≡ get_or (half_bytes s) (from + i) 0 → d ≡ get_or digits_from i 0
     digit_at i d l e = e ∙ sym (get_or-take p (drop from (half_bytes s)) i 0 l ∙ get_or-drop from (half_bytes s) i 0)
 
-    pub digit_bad : (i d : ℕ) → i < p → d ≡ get_or (half_bytes s) (from + i) 0 → 9 < d → 1000000000000000000 ≡ magnitude_of digits_from
+    pub digit_bad : (i d : ℕ) → i < p → d ≡ get_or (half_bytes s) (from + i) 0 → 9 < d → None ≡ magnitude_of digits_from
     unfolding magnitude_of
     digit_bad i d l e h = go (all_below 10 digits_from) refl
       where
-        go : (b : Bool) → all_below 10 digits_from ≡ b → 1000000000000000000 ≡ (if b then in_base 10 digits_from else 1000000000000000000)
+        go : (b : Bool) → all_below 10 digits_from ≡ b → None ≡ (if b then Some (in_base 10 digits_from) else None)
         go true t = absurd (let z : ⊥ = omega (arith, below_at 10 digits_from i (lit< tt) t, digit_at i d l e) in z)
         go false t = refl
 
@@ -81,11 +67,11 @@ module _ (s : List ℕ) (from p : ℕ) where
         → n * 10 + d ≡ in_base 10 (take (i + 1) digits_from)
     number_more i n d l e h = taken_more 10 digits_from i n d (omega (arith, all_there)) (digit_at i d l e) h
 
-    pub digits_all : (i n : ℕ) → p ≤ i → all_below 10 (take i digits_from) ≡ true → n ≡ in_base 10 (take i digits_from) → n ≡ magnitude_of digits_from
+    pub digits_all : (i n : ℕ) → p ≤ i → all_below 10 (take i digits_from) ≡ true → n ≡ in_base 10 (take i digits_from) → Some n ≡ magnitude_of digits_from
     unfolding magnitude_of
     digits_all i n l t h =
         let q : take i digits_from ≡ digits_from = take_all i digits_from (omega (arith, all_there)) in
-        rw (rw q at t) (rw q at h)
+        rw (rw q at t) (ap Some (rw q at h))
 
 pub no_digits : (ds : List ℕ) → (all_below 10 (take 0 ds) ≡ true) × ((0 ≡ in_base 10 (take 0 ds)) × (0 < 10 ^ 0))
 unfolding in_base
@@ -101,46 +87,6 @@ module _ (p i n : ℕ) (few : p ≤ 18) (left : i < p) (l : n < 10 ^ i) where
   pub digit_plus : (d : ℕ) → d ≤ 9 → Fits w64 (n * 10 + d)
   digit_plus d h = record { fits = room 10 18 i n d (lit< tt) (lit≤ tt) (omega arith) l (omega arith) }
 
--- a number with its sign
-module _ (n : ℕ) (small : n < 1000000000000000000) where
-  is_minus : (m : ℕ) → m < 1000000000000000000 → SFits w64 (pos 0 -ℤ pos m)
-  is_minus zero l = record { sfits = lit< tt }
-  is_minus (suc m) l = rw (below 0 (suc m) (omega arith)) (record { sfits = omega arith })
-
-  pub minus_fits : SFits w64 (to_z w64 0 -ℤ to_z w64 n)
-  minus_fits = rw (plain n (omega arith)) (is_minus n small)
-
-  pub minus_read : record { valid = true; value = to_z w64 (of_z w64 (to_z w64 0 -ℤ to_z w64 n)) } ≡ unpacked (signed_by n (some minus))
-  minus_read = rw (to_z-of_z w64 (to_z w64 0 -ℤ to_z w64 n) minus_fits, plain n (omega arith))
-
-  module _ (sign : ℕ) (h : sign < 16) where
-    pub no_sign_read : (r : Unpacked) → sign < 10 → r ≡ unpacked none → r ≡ unpacked (signed_by n (lookup sign signs))
-    no_sign_read r l e = go (lookup sign signs) refl
-      where
-        go : (o : Option Sign) → lookup sign signs ≡ o → r ≡ unpacked (signed_by n o)
-        go none q = e
-        go (some s) q = absurd (let z : ⊥ = omega (arith, sign_high sign s q) in z)
-
-    pub minus_sign : (r : Unpacked) (k : ℕ) → sign ≡ k → lookup k signs ≡ some minus → r ≡ unpacked (signed_by n (some minus))
-        → r ≡ unpacked (signed_by n (lookup sign signs))
-    minus_sign r k q m e = rw (q, m) e
-
-    abbrev MinusAt : ℕ → Sign → Type 0
-    MinusAt k plus = Unit {0}
-    MinusAt k minus = (k ≡ 0xB) ⊎ (k ≡ 0xD)
-
-    pub plus_read : 10 ≤ sign → (sign ≡ 0xB → ⊥) → (sign ≡ 0xD → ⊥) → record { valid = true; value = to_z w64 n } ≡ unpacked (signed_by n (lookup sign signs))
-    plus_read l b d = rw (plain n (omega arith)) (go (lookup sign signs) refl)
-      where
-        neither : (sign ≡ 0xB) ⊎ (sign ≡ 0xD) → ⊥
-        neither (inl e) = b e
-        neither (inr e) = d e
-
-        go : (o : Option Sign) → lookup sign signs ≡ o → record { valid = true; value = pos n } ≡ unpacked (signed_by n o)
-        go none q = absurd (let z : ⊥ = omega (arith, no_sign sign h q) in z)
-        go (some plus) q = refl
-        go (some minus) q = absurd (neither (found_as MinusAt sign signs minus (tt & inl refl & tt & inr refl & tt & tt & end) q))
-
 -- the ways through `packed`
 module _ (s : List ℕ) (p : ℕ) where
   abbrev hs : List ℕ
@@ -152,16 +98,16 @@ module _ (s : List ℕ) (p : ℕ) where
   abbrev ds : List ℕ
   ds = take p (drop u hs)
 
-  pub unused_set : (z : Bool) (r : Unpacked) → z ≡ all_below 1 (take u hs) → z ≡ false → r ≡ unpacked none → r ≡ unpacked (packed_number p s)
+  pub unused_set : (z : Bool) → z ≡ all_below 1 (take u hs) → z ≡ false → None ≡ option_of (packed_number p s)
   unfolding packed_number
-  unused_set z r e f h = go (lookup (get_or hs (u + p) 0) signs)
+  unused_set z e f = go (lookup (get_or hs (u + p) 0) signs)
     where
       t : all_below 1 (take u hs) ≡ false
       t = sym e ∙ f
 
-      go : (o : Option Sign) → r ≡ unpacked (read_digits (take u hs) ds o)
-      go none = h
-      go (some k) = rw t h
+      go : (o : Option Sign) → None ≡ option_of (read_digits (take u hs) ds o)
+      go none = refl
+      go (some k) = rw t
 
   below_top : p ≤ 18 → all_below 10 ds ≡ true → in_base 10 ds < 1000000000000000000
   below_top few t =
@@ -169,34 +115,34 @@ module _ (s : List ℕ) (p : ℕ) where
       let q : 10 ^ length ds ≤ 10 ^ 18 = pow-le-pow_right (lit< tt) l in
       omega (arith, base_below 10 ds (λ i. below_at 10 ds i (lit< tt) t))
 
-  module _ (n : ℕ) (e : n ≡ magnitude_of ds) where
-    pub digit_above : (r : Unpacked) → p ≤ 18 → n ≡ 1000000000000000000 → r ≡ unpacked none → r ≡ unpacked (packed_number p s)
-    unfolding packed_number magnitude_of
-    digit_above r few f h = go (all_below 10 ds) (lookup (get_or hs (u + p) 0) signs) refl e
-      where
-        go : (b : Bool) (o : Option Sign) → all_below 10 ds ≡ b → n ≡ (if b then in_base 10 ds else 1000000000000000000) → r ≡ unpacked (read_digits (take u hs) ds o)
-        go b none t q = h
-        go true (some k) t q = absurd (let z : ⊥ = omega (arith, below_top few t) in z)
-        go false (some k) t q = rw (t, and-false) h
+  pub digit_above : None ≡ magnitude_of ds → None ≡ option_of (packed_number p s)
+  unfolding packed_number magnitude_of
+  digit_above = go (all_below 10 ds) (lookup (get_or hs (u + p) 0) signs) refl
+    where
+      go : (b : Bool) (o : Option Sign) → all_below 10 ds ≡ b → None ≡ (if b then Some (in_base 10 ds) else None) → None ≡ option_of (read_digits (take u hs) ds o)
+      go b none t q = refl
+      go true (some k) t q = cc
+      go false (some k) t q = rw (t, and-false)
 
-    pub magnitude_small : p ≤ 18 → (n ≡ 1000000000000000000 → ⊥) → n < 1000000000000000000
+  module _ (n : ℕ) (e : Some n ≡ magnitude_of ds) where
+    pub magnitude_small : p ≤ 18 → n < 1000000000000000000
     unfolding magnitude_of
-    magnitude_small few f = go (all_below 10 ds) refl e
+    magnitude_small few = go (all_below 10 ds) refl e
       where
-        go : (b : Bool) → all_below 10 ds ≡ b → n ≡ (if b then in_base 10 ds else 1000000000000000000) → n < 1000000000000000000
-        go true t q = omega (arith, below_top few t)
-        go false t q = absurd (f q)
+        go : (b : Bool) → all_below 10 ds ≡ b → Some n ≡ (if b then Some (in_base 10 ds) else None) → n < 1000000000000000000
+        go true t q = let k : n ≡ in_base 10 ds = cc in omega (arith, below_top few t)
+        go false t q = cc
 
-    pub signed_read : (z : Bool) (sign : ℕ) (r : Unpacked) → z ≡ all_below 1 (take u hs) → z ≡ true → (n ≡ 1000000000000000000 → ⊥) → sign ≡ get_or hs (u + p) 0
-        → r ≡ unpacked (signed_by n (lookup sign signs)) → r ≡ unpacked (packed_number p s)
+    pub signed_read : (z : Bool) (sign : ℕ) (r : given.Option ℤ) → z ≡ all_below 1 (take u hs) → z ≡ true → sign ≡ get_or hs (u + p) 0
+        → r ≡ signed_by n (lookup sign signs) → r ≡ option_of (packed_number p s)
     unfolding packed_number magnitude_of
-    signed_read z sign r q t f k h = go (all_below 10 ds) (lookup (get_or hs (u + p) 0) signs) refl e (rw k at h)
+    signed_read z sign r q t k h = go (all_below 10 ds) (lookup (get_or hs (u + p) 0) signs) refl e (rw k at h)
       where
         zero_unused : all_below 1 (take u hs) ≡ true
         zero_unused = sym q ∙ t
 
-        go : (b : Bool) (o : Option Sign) → all_below 10 ds ≡ b → n ≡ (if b then in_base 10 ds else 1000000000000000000) → r ≡ unpacked (signed_by n o)
-            → r ≡ unpacked (read_digits (take u hs) ds o)
+        go : (b : Bool) (o : Option Sign) → all_below 10 ds ≡ b → Some n ≡ (if b then Some (in_base 10 ds) else None) → r ≡ signed_by n o
+            → r ≡ option_of (read_digits (take u hs) ds o)
         go b none w g x = x
-        go true (some k) w g x = rw (zero_unused, w) (x ∙ ap (λ m. unpacked (signed_by m (some k))) g)
-        go false (some k) w g x = absurd (f g)
+        go true (some k) w g x = let m : n ≡ in_base 10 ds = cc in rw (zero_unused, w) (x ∙ ap (λ m. Some (with_sign k m)) m)
+        go false (some k) w g x = cc

@@ -1,9 +1,8 @@
 -- Half of the numbers of a width, and two's complement by it, at every width.
 -- Assumes nothing.
 use mathlib.Core.Path.{◌≡◌, refl, sym, ◌∙◌, ap}
-use Prim.Native.Nat.{ℕ, zero, suc, ◌+◌, ◌-◌, ◌*◌, ◌<◌, ◌≤◌, ◌^◌}
-use native.Mathlib.Numerals.{add-one}
-use native.Mathlib.Nat.{pow-suc, pow-le-pow_right, zero-add, not-suc-le-zero}
+use Prim.Native.Nat.{ℕ, zero, suc, ◌-◌, ◌*◌, ◌<◌, ◌≤◌, ◌^◌}
+use native.Mathlib.Nat.{pow-le-pow_right, zero-add, not-suc-le-zero}
 use native.Mathlib.Omega.{arith}
 use mathlib.Core.List.{List}
 use lib.Dec.{lit<}
@@ -18,18 +17,15 @@ use Rattle.fdoca.specs.Calls.{signed}
 use Rattle.fdoca.proofs.Tests.{by_lt}
 use Rattle.numbers.specs.Whole.{twos}
 
--- half of the numbers, with one byte more
-pub half_more : (h i : ℕ) → 2 * h ≡ 256 ^ i → 2 * (h * 256) ≡ 256 ^ (i + 1)
-half_more h i e = rw (add-one, pow-suc, ← e) (omega arith)
+-- half of the numbers, as 128 times those of a byte less
+below_eight : (w : ℕ) → w ≤ 8 → 256 ^ (w - 1) ≤ 256 ^ 7
+below_eight w l = let k : w - 1 ≤ 7 = omega arith in pow-le-pow_right (lit< tt) k
 
-pub half_room : (h i w : ℕ) → i < w → w ≤ 8 → 2 * h ≡ 256 ^ i → Fits w64 (h * 256)
-half_room h i w l f e =
-    let k : i ≤ 7 = omega arith in
-    let q : 256 ^ i ≤ 256 ^ 7 = pow-le-pow_right (lit< tt) k in
-    record { fits = omega arith }
+pub half_room : (w : ℕ) → w ≤ 8 → 256 ^ (w - 1) < 18446744073709551616
+half_room w l = omega (arith, below_eight w l)
 
-pub half_all : (h i w : ℕ) → i ≤ w → w ≤ i → 2 * h ≡ 256 ^ i → 2 * h ≡ 256 ^ w
-half_all h i w l m e = let k : i ≡ w = omega arith in rw k at e
+pub half_times : (w n : ℕ) → w ≤ 8 → n ≡ 256 ^ (w - 1) → Fits w64 (128 * n)
+half_times w n l e = record { fits = omega (arith, below_eight w l) }
 
 pub half_fits : (h w : ℕ) → w ≤ 8 → 2 * h ≡ 256 ^ w → h ≤ 9223372036854775808
 half_fits h w f e = let q : 256 ^ w ≤ 256 ^ 8 = pow-le-pow_right (lit< tt) f in omega arith

@@ -1,24 +1,29 @@
 -- What a C caller is given: the number returned, and what is written through each lent number and into the list, also on a refusal. All of
--- it is the answer to what the call's definition gives.
+-- it is the answer to what the call's definition gives: an accepted call gives number 0 and place 0, a refusal its own and zeros.
 use Rattle.std.specs.Prelude.{ℕ, ◌+◌, ◌≤◌, Bool, false, ◌≡◌, List, ℤ, pos, Float, length, if◌then◌else◌}
 use Rattle.std.specs.Float.{fin}
 use Rattle.fdoca.specs.declared.Value.{Value}
 use Rattle.fdoca.specs.declared.Value.TheVariants.{Null, Whole, Real}
-use Rattle.fdoca.specs.Basics.{Result}
+use Rattle.fdoca.specs.Basics.{Result, refuse, ok}
 use Rattle.fdoca.specs.Walk.{Note}
-use Rattle.fdoca.specs.Calls.{checked, listed, entries_after, state_of, whole_answer, decimal_answer, value_answer}
-use Rattle.blocks.specs.Lending.{lent_at}
+use Rattle.fdoca.specs.Calls.{entries_after, number_given, place_given}
+
+-- A part of what an accepted call gives, or of a refusal `zero`.
+module _ {A B : Type 0} where
+  abbrev pub given : (zero : B) → (A → B) → Result A → B
+  given zero part (refuse n p) = zero
+  given zero part (ok a) = part a
 
 -- The check, which gives x.
 pub record CheckGiven (x : Result ℕ) (number place items : ℕ) : Type 0 where
-  pub returned : number ≡ (checked x).number
-  pub placed : place ≡ (checked x).place
-  pub counted : items ≡ (checked x).items
+  pub returned : number ≡ number_given x
+  pub placed : place ≡ place_given x
+  pub counted : items ≡ given 0 (λ n. n) x
 
 -- The list call, which gives x, over a list that held `old`.
 pub record ListGiven (x : Result (List ℕ)) (old : List ℕ) (number place : ℕ) (new : List ℕ) : Type 0 where
-  pub returned : number ≡ (listed x).number
-  pub placed : place ≡ (listed x).place
+  pub returned : number ≡ number_given x
+  pub placed : place ≡ place_given x
   pub entries : new ≡ entries_after old x
 
 -- The null mark as a number: 1, and 0 where there is none.
@@ -27,36 +32,36 @@ mark null = if null then 1 else 0
 
 -- The state of the item x, with its three lengths.
 pub record StateGiven (x : Result Note) (number place null code lead value spare : ℕ) : Type 0 where
-  pub returned : number ≡ (state_of x).number
-  pub placed : place ≡ (state_of x).place
-  pub marked : null ≡ mark (state_of x).null
-  pub coded : code ≡ (state_of x).code
-  pub led : lead ≡ (state_of x).lead
-  pub sized : value ≡ (state_of x).value
-  pub spared : spare ≡ (state_of x).spare
+  pub returned : number ≡ number_given x
+  pub placed : place ≡ place_given x
+  pub marked : null ≡ given 0 (λ i. mark i.is_null) x
+  pub coded : code ≡ given 0 (λ i. i.field.code) x
+  pub led : lead ≡ given 0 (λ i. i.lead) x
+  pub sized : value ≡ given 0 (λ i. i.value) x
+  pub spared : spare ≡ given 0 (λ i. i.spare) x
 
 -- Where the value of the item x lies in the data s: within them, also where it is empty.
 pub record LentGiven (x : Result Note) (s : List ℕ) (number place offset size : ℕ) : Type 0 where
-  pub returned : number ≡ (lent_at x).number
-  pub placed : place ≡ (lent_at x).place
-  pub begins : offset ≡ (lent_at x).offset
-  pub sized : size ≡ (lent_at x).length
+  pub returned : number ≡ number_given x
+  pub placed : place ≡ place_given x
+  pub begins : offset ≡ given 0 (λ i. i.start + i.lead) x
+  pub sized : size ≡ given 0 (λ i. i.value) x
   pub within : offset + size ≤ length s
 
 -- The whole-number read, which gives x.
 pub record WholeGiven (x : Result (Bool × ℤ)) (number place null : ℕ) (value : ℤ) : Type 0 where
-  pub returned : number ≡ (whole_answer x).number
-  pub placed : place ≡ (whole_answer x).place
-  pub marked : null ≡ mark (whole_answer x).null
-  pub read : value ≡ (whole_answer x).value
+  pub returned : number ≡ number_given x
+  pub placed : place ≡ place_given x
+  pub marked : null ≡ given 0 (λ v. mark v.0) x
+  pub read : value ≡ given (pos 0) (λ v. v.1) x
 
 -- The read of a packed item, which gives x.
 pub record PackedGiven (x : Result (Bool × ℤ × ℕ)) (number place null : ℕ) (value : ℤ) (fraction : ℕ) : Type 0 where
-  pub returned : number ≡ (decimal_answer x).number
-  pub placed : place ≡ (decimal_answer x).place
-  pub marked : null ≡ mark (decimal_answer x).null
-  pub read : value ≡ (decimal_answer x).value
-  pub behind_the_point : fraction ≡ (decimal_answer x).fraction
+  pub returned : number ≡ number_given x
+  pub placed : place ≡ place_given x
+  pub marked : null ≡ given 0 (λ v. mark v.0) x
+  pub read : value ≡ given (pos 0) (λ v. v.1) x
+  pub behind_the_point : fraction ≡ given 0 (λ v. v.2) x
 
 -- The kind of a value: 0 null, 1 a whole number, 2 a 64-bit float; and its whole number and its float, of which what a kind has not is 0.
 abbrev pub kind_of : Value → ℕ
@@ -74,10 +79,10 @@ real_in Null = fin false 0 (pos 0)
 real_in (Whole z) = fin false 0 (pos 0)
 real_in (Real v) = v
 
--- The value call, which gives x.
+-- The value call, which gives x. A refusal has the whole number 0.
 pub record ValueGiven (x : Result Value) (number place kind : ℕ) (whole : ℤ) (real : Float) : Type 0 where
-  pub returned : number ≡ (value_answer x).number
-  pub placed : place ≡ (value_answer x).place
-  pub of_kind : kind ≡ kind_of (value_answer x).value
-  pub of_whole : whole ≡ whole_in (value_answer x).value
-  pub of_real : real ≡ real_in (value_answer x).value
+  pub returned : number ≡ number_given x
+  pub placed : place ≡ place_given x
+  pub of_kind : kind ≡ kind_of (given (Whole (pos 0)) (λ v. v) x)
+  pub of_whole : whole ≡ whole_in (given (Whole (pos 0)) (λ v. v) x)
+  pub of_real : real ≡ real_in (given (Whole (pos 0)) (λ v. v) x)

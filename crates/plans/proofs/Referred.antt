@@ -1,24 +1,23 @@
--- The list of one group, by what its id describes: `group` and `write` fill in the entry of an SDA, or go down to an RLO or a GDA; `column` writes that of an SDA
--- with its length replaced.
+-- The list of one group, by what its id describes: `write_group` and `write` fill in the entry of an SDA, or go down to an RLO or a GDA; of a GDA's group
+-- the entry of an SDA is written with its length replaced.
 -- Assumes nothing.
 use mathlib.Core.Path.{◌≡◌, refl, sym, ap, ◌∙◌}
 use mathlib.Core.List.{List, [], ◌∷◌, ◌++◌, map, map-append}
 use mathlib.Core.Option.{some}
-use Prim.Native.Nat.{ℕ, zero, suc, ◌+◌, ◌-◌, ◌*◌, ◌^◌, ◌≤◌, ◌<◌}
+use Prim.Native.Nat.{ℕ, zero, suc, ◌+◌, ◌-◌, ◌*◌, ◌%◌, ◌≤◌, ◌<◌}
 use native.Mathlib.Omega.{arith}
 use borrow.Author.Tests.{ne_eqb}
-use mir.Syntax.{w64}
-use mir.Val.{Fits}
 use lib.ListN.{length, get_or, set, take, drop, replicate, length-append, length-replicate, length-map}
 use lib.Seq.{sets, length-sets}
 use Rattle.fdoca.specs.Basics.{lookup, repeat}
-use Rattle.fdoca.specs.Triplet.{Kind, rlo, gda}
+use Rattle.fdoca.specs.FieldType.{type_of}
+use Rattle.fdoca.specs.Triplet.{Kind, rlo, gda, Group}
 use Rattle.fdoca.specs.Item.{Field}
 use Rattle.fdoca.specs.Unfolding.{Described, array, row, fields_taken, fields_referred, column}
-use Rattle.fields.specs.Plan.{entry_of}
+use Rattle.fields.specs.Plan.{entry_of, Proper}
 use Rattle.fields.specs.Replaced.{Replaced}
 use Rattle.plans.specs.Tied.{described_by, list_of, kind_of, row_list, Takes, all, some_of, Makes, of_row, of_column, Refers, RowAt, SdaKept, Kept, Tied, Known}
-use Rattle.plans.specs.Writing.{group_at, group_list, ColumnAt, entries_taken}
+use Rattle.plans.specs.Writing.{group_list, RefersRow, entries_taken}
 use Rattle.plans.proofs.Lists.{length_repeat, repeat_first, repeat_replicate, sets_append, read_back, map_repeat, map_replicate}
 
 sda_once : {z e : List ℕ} {i : ℕ} (t : ℕ) (f : Field) (xs : List ℕ) → SdaKept z e i f xs → Takes t (array f xs)
@@ -62,23 +61,11 @@ pub same_fields : (l : List Field) (n x : ℕ) (f : Field) → l ≡ replicate n
 same_fields l n x f u v =
     (ap (map entry_of) u ∙ map_replicate entry_of n f ∙ ap (replicate n) v, ap length u ∙ length-replicate n f)
 
--- ---- `column`
+-- the entry that a table has is not 0
+pub marked_is : {x y : ℕ} → (x ≡ y) × (0 < x) → 0 < y
+marked_is h = omega arith
 
-module _ (d e : List ℕ) (g at : ℕ) (c : ColumnAt d e g) where
-  column_list_lem : group_list d gda g ≡ column (get_or d (g + 1) 0) (get_or d (g + 2) 0) c.field ∷ []
-  unfolding group_at group_list
-  column_list_lem = rw c.known
-
-  pub column_place : at + 1 ≡ at + length (group_list d gda g)
-  column_place = rw column_list_lem
-
-  pub column_written : (plan : List ℕ) (i r : ℕ) → i ≡ get_or d g 0 → Replaced (get_or e i 0) (get_or d (g + 1) 0) (get_or d (g + 2) 0) r
-      → set plan at r ≡ sets plan at (map entry_of (group_list d gda g))
-  column_written plan i r h k =
-      let w : r ≡ entry_of (column (get_or d (g + 1) 0) (get_or d (g + 2) 0) c.field) = k.same c.field c.proper c.typed (rw h c.entry) in
-      rw (column_list_lem, w)
-
--- ---- `group`
+-- ---- `write_group`
 
 -- the kind by the construct type
 pub kind_array : (head : ℕ) → head ≡ 0x75 → kind_of head ≡ gda
@@ -92,167 +79,168 @@ kind_row head h = rw (ne_eqb head 0x75 h)
 pub kinds_differ : {A : Type 0} → rlo ≡ gda → A
 kinds_differ e = absurd (let z : ◌≡◌ {A = ℕ} 0 1 = cc in let w : ⊥ = omega arith in w)
 
-module _ (d s z e : List ℕ) (q g at head : ℕ) (tied : Tied d s z e) (k : Refers (kind_of head) d s q (group_at d g)) (h : head ≡ 0x75) where
-  array_list : group_list d (kind_of head) g ≡ group_list d gda g
-  array_list = rw (kind_array head h)
+-- a group of a GDA: it refers to an SDA without extents
+record ColumnAt (d e : List ℕ) (g : Group) : Type 0 where
+  field : Field
+  known : lookup g.ref (described_by d) ≡ some (array field [])
+  entry : get_or e g.ref 0 ≡ entry_of field
+  marked : 0 < get_or e g.ref 0
+  proper : Proper field
+  typed : type_of field.code ≡ some field.type
 
-  pub column_found : ColumnAt d e g
-  unfolding group_at
-  column_found = go (kind_of head) (kind_array head h) k.to k.known k.makes
+module _ (d s z e : List ℕ) (q at head : ℕ) (g : Group) (tied : Tied d s z e) (k : Refers (kind_of head) d s q g) (h : head ≡ 0x75) where
+  c : ColumnAt d e g
+  c = go (kind_of head) (kind_array head h) k.to k.known k.makes
     where
-      go : (m : Kind) → m ≡ gda → (D : Described) → lookup (get_or d g 0) (described_by d) ≡ some D → Makes m (group_at d g) D → ColumnAt d e g
+      go : (m : Kind) → m ≡ gda → (D : Described) → lookup g.ref (described_by d) ≡ some D → Makes m g D → ColumnAt d e g
       go gda t (array f []) o (of_column good) =
-          let w = tied.each (get_or d g 0) (array f []) o in
-          record { field = f; known = o; entry = w.entry; proper = w.proper; typed = w.typed }
+          let w = tied.each g.ref (array f []) o in
+          record { field = f; known = o; entry = w.entry; marked = w.marked; proper = w.proper; typed = w.typed }
       go gda t (array f (_ ∷ _)) o m = elim m [ ]
       go gda t (row _) o m = elim m [ ]
       go rlo t D o m = kinds_differ t
 
-  pub column_room : (size : ℕ) → at + length (group_list d (kind_of head) g) ≤ size → at + 1 ≤ size
-  column_room size l = rw (array_list, ← column_place d e g at column_found) at l
+  pub column_marked : 0 < get_or e g.ref 0
+  column_marked = c.marked
 
-  pub array_place : (b : ℕ) → b ≡ at + length (group_list d gda g) → b ≡ at + length (group_list d (kind_of head) g)
-  array_place b u = u ∙ rw array_list
+  one_column : group_list d (kind_of head) g ≡ column g.byte1 g.byte2 c.field ∷ []
+  unfolding group_list
+  one_column = rw (kind_array head h, c.known)
 
-  pub array_written : (plan plan' : List ℕ) → plan' ≡ sets plan at (map entry_of (group_list d gda g))
-      → plan' ≡ sets plan at (map entry_of (group_list d (kind_of head) g))
-  array_written plan plan' u = u ∙ rw array_list
+  pub column_place : at + 1 ≡ at + length (group_list d (kind_of head) g)
+  column_place = rw one_column
+
+  pub column_room : (size : ℕ) → at + length (group_list d (kind_of head) g) ≤ size → at < size
+  column_room size l = omega (arith, ap length one_column)
+
+  pub column_written : (plan : List ℕ) (own r : ℕ) → (own ≡ get_or e g.ref 0) × (0 < own) → Replaced own g.byte1 g.byte2 r
+      → set plan at r ≡ sets plan at (map entry_of (group_list d (kind_of head) g))
+  column_written plan own r o k =
+      let u : own ≡ entry_of c.field = o.0 ∙ c.entry in
+      let w : r ≡ entry_of (column g.byte1 g.byte2 c.field) = k.same c.field c.proper c.typed u in
+      rw (one_column, w)
 
 -- a group of an RLO
-pub record RefersRow (d : List ℕ) (g : ℕ) : Type 0 where
-  pub to : Described
-  pub known : lookup (get_or d g 0) (described_by d) ≡ some to
-  pub takes : Takes (get_or d (g + 1) 0) to
-
-pub row_refers : (d s : List ℕ) (q g head : ℕ) → Refers (kind_of head) d s q (group_at d g) → (head ≡ 0x75 → ⊥) → RefersRow d g
-unfolding group_at
-row_refers d s q g head k h = go (kind_of head) (kind_row head h) k.makes
+pub row_refers : (d s : List ℕ) (q head : ℕ) (g : Group) → Refers (kind_of head) d s q g → (head ≡ 0x75 → ⊥) → RefersRow d g
+row_refers d s q head g k h = go (kind_of head) (kind_row head h) k.makes
   where
-    go : (m : Kind) → m ≡ rlo → Makes m (group_at d g) k.to → RefersRow d g
+    go : (m : Kind) → m ≡ rlo → Makes m g k.to → RefersRow d g
     go rlo t (of_row x) = record { to = k.to; known = k.known; takes = x }
     go gda t x = kinds_differ (sym t)
 
-module _ (d s z e : List ℕ) (q g at head : ℕ) (tied : Tied d s z e) (k : Refers (kind_of head) d s q (group_at d g)) (not-array : head ≡ 0x75 → ⊥) where
+module _ (d s z e : List ℕ) (q at head : ℕ) (g : Group) (tied : Tied d s z e) (k : Refers (kind_of head) d s q g) (not-array : head ≡ 0x75 → ⊥) where
   r : RefersRow d g
-  r = row_refers d s q g head k not-array
+  r = row_refers d s q head g k not-array
 
   is_row : kind_of head ≡ rlo
   is_row = kind_row head not-array
 
-  -- no repetition
-  module _ (f : get_or d (g + 2) 0 ≡ 0) where
-    pub none_list : group_list d (kind_of head) g ≡ []
-    unfolding group_at group_list
-    none_list = rw (is_row, f)
+  module _ (n : ℕ) (en : n ≡ g.byte2) where
+    -- no repetition
+    module _ (f : n ≡ 0) where
+      pub none_list : group_list d (kind_of head) g ≡ []
+      unfolding group_list
+      none_list = rw (is_row, sym en ∙ f)
 
-    pub none_place : at ≡ at + length (group_list d (kind_of head) g)
-    none_place = rw none_list (omega arith)
+      pub none_place : at ≡ at + length (group_list d (kind_of head) g)
+      none_place = rw none_list (omega arith)
 
-    pub none_written : (plan : List ℕ) → plan ≡ sets plan at (map entry_of (group_list d (kind_of head) g))
-    none_written plan = rw none_list
+      pub none_written : (plan : List ℕ) → plan ≡ sets plan at (map entry_of (group_list d (kind_of head) g))
+      none_written plan = rw none_list
 
-  module _ (m : get_or e (get_or d g 0) 0 ≡ 0 → ⊥) (n : ℕ) (c : n ≡ entries_taken (get_or z (get_or d g 0) 0) (get_or d (g + 1) 0)) where
-    sda_list : (map entry_of (group_list d (kind_of head) g) ≡ replicate (get_or d (g + 2) 0 * n) (get_or e (get_or d g 0) 0)) × (length (group_list d (kind_of head) g) ≡ get_or d (g + 2) 0 * n)
-    unfolding group_at group_list
-    sda_list =
-        let w = sda_fields d s z e (get_or d g 0) (get_or d (g + 1) 0) tied r.to r.known r.takes m in
-        let once : fields_referred (get_or d (g + 1) 0) (lookup (get_or d g 0) (described_by d)) ≡ replicate n w.0 =
-        w.1 ∙ ap (λ (k : ℕ). replicate k w.0) (sym c) in
-        same_fields (group_list d (kind_of head) g) (get_or d (g + 2) 0 * n) (get_or e (get_or d g 0) 0) w.0
-        (rw is_row (ap (repeat (get_or d (g + 2) 0)) once) ∙ repeat_replicate (get_or d (g + 2) 0) n w.0) w.2
+    module _ (marked : 0 < get_or e g.ref 0) (m : ℕ) (c : (m ≡ entries_taken (get_or z g.ref 0) g.byte1) × (m < 16777216)) where
+      sda_list : (map entry_of (group_list d (kind_of head) g) ≡ replicate (n * m) (get_or e g.ref 0)) × (length (group_list d (kind_of head) g) ≡ n * m)
+      unfolding group_list
+      sda_list =
+          let w = sda_fields d s z e g.ref g.byte1 tied r.to r.known r.takes (λ y. omega arith) in
+          let once : fields_referred g.byte1 (lookup g.ref (described_by d)) ≡ replicate m w.0 =
+          w.1 ∙ ap (λ (k : ℕ). replicate k w.0) (sym c.0) in
+          same_fields (group_list d (kind_of head) g) (n * m) (get_or e g.ref 0) w.0
+          (rw is_row (ap (repeat g.byte2) once) ∙ ap (λ (k : ℕ). repeat k (replicate m w.0)) (sym en) ∙ repeat_replicate n m w.0) w.2
 
-    pub sda_room : (size : ℕ) → at + length (group_list d (kind_of head) g) ≤ size → at + get_or d (g + 2) 0 * n ≤ size
-    sda_room size h = omega (arith, sda_list.1)
+      pub sda_room : (size : ℕ) → at + length (group_list d (kind_of head) g) ≤ size → at + n * m ≤ size
+      sda_room size l = omega (arith, sda_list.1)
 
-    pub sda_fits : (plan : List ℕ) → at + length (group_list d (kind_of head) g) ≤ length plan → length plan * 8 < 2 ^ 63 → Fits w64 (get_or d (g + 2) 0 * n)
-    sda_fits plan h l = omega (arith, sda_list.1)
+      pub sda_place : (b : ℕ) → b ≡ at + n * m → b ≡ at + length (group_list d (kind_of head) g)
+      sda_place b u = omega (arith, sda_list.1)
 
-    pub sda_place : (b : ℕ) → b ≡ at + get_or d (g + 2) 0 * n → b ≡ at + length (group_list d (kind_of head) g)
-    sda_place b u = omega (arith, sda_list.1)
+      pub sda_written : (plan plan' : List ℕ) (x : ℕ) → x ≡ get_or e g.ref 0 → plan' ≡ sets plan at (replicate (n * m) x)
+          → plan' ≡ sets plan at (map entry_of (group_list d (kind_of head) g))
+      sda_written plan plan' x h u = u ∙ ap (λ (y : ℕ). sets plan at (replicate (n * m) y)) h ∙ ap (sets plan at) (sym sda_list.0)
 
-    pub sda_written : (plan plan' : List ℕ) → plan' ≡ sets plan at (replicate (get_or d (g + 2) 0 * n) (get_or e (get_or d g 0) 0))
-        → plan' ≡ sets plan at (map entry_of (group_list d (kind_of head) g))
-    sda_written plan plan' u = u ∙ ap (sets plan at) (sym sda_list.0)
+    module _ (f : n ≡ 0 → ⊥) (m : get_or e g.ref 0 ≡ 0) (p : ℕ) (ep : (p ≡ get_or s g.ref 0) × (p < 65536)) where
+      abbrev once : List Field
+      once = row_list d p
 
-  module _ (f : get_or d (g + 2) 0 ≡ 0 → ⊥) (m : get_or e (get_or d g 0) 0 ≡ 0) where
-    repeats : 0 < get_or d (g + 2) 0
-    repeats = omega arith
+      pub row_made : RowAt d s p once
+      row_made = rw ep.0 ((row_fields d s z e g.ref g.byte1 tied r.to r.known m).1)
 
-    abbrev once : List Field
-    once = row_list d (get_or s (get_or d g 0) 0)
+      row_list_lem : group_list d (kind_of head) g ≡ once ++ repeat (n - 1) once
+      unfolding group_list
+      row_list_lem =
+          rw is_row (ap (repeat g.byte2) (row_fields d s z e g.ref g.byte1 tied r.to r.known m).0)
+          ∙ ap (λ (k : ℕ). repeat k (row_list d (get_or s g.ref 0))) (sym en)
+          ∙ ap (λ (k : ℕ). repeat n (row_list d k)) (sym ep.0)
+          ∙ repeat_first n once (omega arith)
 
-    pub row_made : RowAt d s (get_or s (get_or d g 0) 0) once
-    unfolding group_at
-    row_made = (row_fields d s z e (get_or d g 0) (get_or d (g + 1) 0) tied r.to r.known m).1
+      row_length : length (group_list d (kind_of head) g) ≡ length once + (n - 1) * length once
+      row_length = ap length row_list_lem ∙ length-append once _ ∙ ap (λ (k : ℕ). length once + k) (length_repeat (n - 1) once)
 
-    row_list_lem : group_list d (kind_of head) g ≡ once ++ repeat (get_or d (g + 2) 0 - 1) once
-    unfolding group_at group_list
-    row_list_lem =
-        rw is_row (ap (repeat (get_or d (g + 2) 0)) (row_fields d s z e (get_or d g 0) (get_or d (g + 1) 0) tied r.to r.known m).0)
-        ∙ repeat_first (get_or d (g + 2) 0) once repeats
+      pub row_room : (size : ℕ) → at + length (group_list d (kind_of head) g) ≤ size → at + length once ≤ size
+      row_room size h = omega (arith, row_length)
 
-    row_length : length (group_list d (kind_of head) g) ≡ length once + (get_or d (g + 2) 0 - 1) * length once
-    row_length = ap length row_list_lem ∙ length-append once _ ∙ ap (λ (n : ℕ). length once + n) (length_repeat (get_or d (g + 2) 0 - 1) once)
+      module _ (b : ℕ) (u : b ≡ at + length once) where
+        between_once : b - at ≡ length once
+        between_once = omega arith
 
-    pub row_room : (size : ℕ) → at + length (group_list d (kind_of head) g) ≤ size → at + length once ≤ size
-    row_room size h = omega (arith, row_length)
+        pub copies_room : (plan plan₁ : List ℕ) → at + length (group_list d (kind_of head) g) ≤ length plan → plan₁ ≡ sets plan at (map entry_of once)
+            → b + (n - 1) * (b - at) ≤ length plan₁
+        copies_room plan plan₁ h v = rw (v, length-sets, between_once) (omega (arith, row_length))
 
-    module _ (b : ℕ) (u : b ≡ at + length once) where
-      between_once : b - at ≡ length once
-      between_once = omega arith
+        pub row_place : (b' : ℕ) → b' ≡ b + (n - 1) * (b - at) → b' ≡ at + length (group_list d (kind_of head) g)
+        row_place b' u' = rw between_once at u' ∙ omega (arith, row_length)
 
-      pub copies_room : (plan plan₁ : List ℕ) → at + length (group_list d (kind_of head) g) ≤ length plan → plan₁ ≡ sets plan at (map entry_of once)
-          → b + (get_or d (g + 2) 0 - 1) * (b - at) ≤ length plan₁
-      copies_room plan plan₁ h v = rw (v, length-sets, between_once) (omega (arith, row_length))
-
-      pub row_place : (b' : ℕ) → b' ≡ b + (get_or d (g + 2) 0 - 1) * (b - at) → b' ≡ at + length (group_list d (kind_of head) g)
-      row_place b' u' = rw between_once at u' ∙ omega (arith, row_length)
-
-      pub row_written : (plan plan₁ plan₂ : List ℕ) → at + length (group_list d (kind_of head) g) ≤ length plan → plan₁ ≡ sets plan at (map entry_of once)
-          → plan₂ ≡ sets plan₁ b (repeat (get_or d (g + 2) 0 - 1) (take (b - at) (drop at plan₁))) → plan₂ ≡ sets plan at (map entry_of (group_list d (kind_of head) g))
-      row_written plan plan₁ plan₂ h v v' =
-          let l : List ℕ = map entry_of once in
-          let n : ℕ = get_or d (g + 2) 0 - 1 in
-          let e : length l ≡ length once = length-map once entry_of in
-          let back : take (b - at) (drop at plan₁) ≡ l = rw (v, between_once, ← e) (read_back plan l at (omega (arith, row_length))) in
-          v'
-          ∙ ap (λ (x : List ℕ). sets plan₁ b (repeat n x)) back
-          ∙ ap (λ (x : List ℕ). sets x b (repeat n l)) v
-          ∙ ap (λ (x : ℕ). sets (sets plan at l) x (repeat n l)) (u ∙ ap (λ (x : ℕ). at + x) (sym e))
-          ∙ sets_append plan l (repeat n l) at
-          ∙ ap (λ (x : List ℕ). sets plan at (l ++ x)) (sym (map_repeat entry_of n once))
-          ∙ ap (sets plan at) (sym (map-append entry_of once (repeat n once)))
-          ∙ ap (λ (x : List Field). sets plan at (map entry_of x)) (sym row_list_lem)
+        pub row_written : (plan plan₁ plan₂ : List ℕ) → at + length (group_list d (kind_of head) g) ≤ length plan → plan₁ ≡ sets plan at (map entry_of once)
+            → plan₂ ≡ sets plan₁ b (repeat (n - 1) (take (b - at) (drop at plan₁))) → plan₂ ≡ sets plan at (map entry_of (group_list d (kind_of head) g))
+        row_written plan plan₁ plan₂ h v v' =
+            let l : List ℕ = map entry_of once in
+            let e : length l ≡ length once = length-map once entry_of in
+            let back : take (b - at) (drop at plan₁) ≡ l = rw (v, between_once, ← e) (read_back plan l at (omega (arith, row_length))) in
+            v'
+            ∙ ap (λ (x : List ℕ). sets plan₁ b (repeat (n - 1) x)) back
+            ∙ ap (λ (x : List ℕ). sets x b (repeat (n - 1) l)) v
+            ∙ ap (λ (x : ℕ). sets (sets plan at l) x (repeat (n - 1) l)) (u ∙ ap (λ (x : ℕ). at + x) (sym e))
+            ∙ sets_append plan l (repeat (n - 1) l) at
+            ∙ ap (λ (x : List ℕ). sets plan at (l ++ x)) (sym (map_repeat entry_of (n - 1) once))
+            ∙ ap (sets plan at) (sym (map-append entry_of once (repeat (n - 1) once)))
+            ∙ ap (λ (x : List Field). sets plan at (map entry_of x)) (sym row_list_lem)
 
 -- ---- `write`
 
 module _ (d s z e : List ℕ) (i : ℕ) (tied : Tied d s z e) (k : Known d i) where
-  module _ (m : get_or e i 0 ≡ 0 → ⊥) (n : ℕ) (c : n ≡ entries_taken (get_or z i 0) 0) where
+  module _ (marked : 0 < get_or e i 0) (n : ℕ) (c : (n ≡ get_or z i 0 % 65536) × (n < 65536)) where
     all_list : (map entry_of (list_of d i) ≡ replicate n (get_or e i 0)) × (length (list_of d i) ≡ n)
-    unfolding list_of
+    unfolding list_of entries_taken
     all_list =
-        let w = sda_fields d s z e i 0 tied k.what k.known all m in
-        same_fields (list_of d i) n (get_or e i 0) w.0 (w.1 ∙ ap (λ (x : ℕ). replicate x w.0) (sym c)) w.2
+        let w = sda_fields d s z e i 0 tied k.what k.known all (λ y. omega arith) in
+        same_fields (list_of d i) n (get_or e i 0) w.0 (w.1 ∙ ap (λ (y : ℕ). replicate y w.0) (sym c.0)) w.2
 
     pub all_room : (size : ℕ) → length (list_of d i) ≤ size → 0 + n ≤ size
     all_room size h = omega (arith, all_list.1)
 
-    pub all_written : (plan plan' : List ℕ) → plan' ≡ sets plan 0 (replicate n (get_or e i 0)) → plan' ≡ sets plan 0 (map entry_of (list_of d i))
-    all_written plan plan' u = u ∙ ap (sets plan 0) (sym all_list.0)
+    pub all_written : (plan plan' : List ℕ) (x : ℕ) → x ≡ get_or e i 0 → plan' ≡ sets plan 0 (replicate n x) → plan' ≡ sets plan 0 (map entry_of (list_of d i))
+    all_written plan plan' x h u = u ∙ ap (λ (y : ℕ). sets plan 0 (replicate n y)) h ∙ ap (sets plan 0) (sym all_list.0)
 
-  module _ (m : get_or e i 0 ≡ 0) where
-    pub top_made : RowAt d s (get_or s i 0) (row_list d (get_or s i 0))
-    top_made = (row_fields d s z e i 0 tied k.what k.known m).1
+  module _ (m : get_or e i 0 ≡ 0) (p : ℕ) (ep : (p ≡ get_or s i 0) × (p < 65536)) where
+    pub top_made : RowAt d s p (row_list d p)
+    top_made = rw ep.0 ((row_fields d s z e i 0 tied k.what k.known m).1)
 
-    top_list : list_of d i ≡ row_list d (get_or s i 0)
+    pub top_list : list_of d i ≡ row_list d p
     unfolding list_of
-    top_list = (row_fields d s z e i 0 tied k.what k.known m).0
+    top_list = rw ep.0 ((row_fields d s z e i 0 tied k.what k.known m).0)
 
-    pub top_fits : Fits w64 (get_or s i 0)
-    top_fits = omega (arith, top_made.head, tied.small)
-
-    pub top_room : (size : ℕ) → length (list_of d i) ≤ size → 0 + length (row_list d (get_or s i 0)) ≤ size
+    pub top_room : (size : ℕ) → length (list_of d i) ≤ size → 0 + length (row_list d p) ≤ size
     top_room size h = omega (arith, ap length top_list)
 
-    pub top_written : (plan plan' : List ℕ) → plan' ≡ sets plan 0 (map entry_of (row_list d (get_or s i 0))) → plan' ≡ sets plan 0 (map entry_of (list_of d i))
+    pub top_written : (plan plan' : List ℕ) → plan' ≡ sets plan 0 (map entry_of (row_list d p)) → plan' ≡ sets plan 0 (map entry_of (list_of d i))
     top_written plan plan' u = u ∙ ap (λ (l : List Field). sets plan 0 (map entry_of l)) (sym top_list)

@@ -1,20 +1,23 @@
--- The loop over the groups of an RLO or a GDA and of its CPTs: at a group, at the head of a CPT and at the end of the row; and that of `expand`.
+-- The groups of an RLO or a GDA and of its CPTs, as the iterator gives them; and the loop of `expand`.
 -- Assumes nothing.
+use Rattle.std.specs.Prelude.{if◌then◌else◌}
+use mathlib.Core.Bool.{Bool, true, false}
+use lib.Dec.{ltb, eqb}
 use mathlib.Core.Path.{◌≡◌, refl, sym, ap, ◌∙◌, subst}
 use mathlib.Core.List.{List, [], ◌∷◌, ◌++◌, map, map-append, append-nil, append_assoc}
 use Prim.Native.Nat.{ℕ, suc, ◌+◌, ◌-◌, ◌≤◌, ◌<◌}
 use native.Mathlib.Numerals.{add-one, add-two, add-three}
 use native.Mathlib.Omega.{arith}
 use borrow.Author.Tests.{lt-ltb, le-ltb, eq-eqb, ne_eqb}
-use lib.ListN.{length, get_or, drop, length-append, length-drop, length-map}
+use lib.ListN.{length, get_or, take, drop, length-append, length-map}
+use Rattle.std.proofs.lemmas.List.{take_rest}
 use lib.Seq.{sets, length-sets, drop-cons}
 use Rattle.fdoca.specs.Triplet.{Kind, Group}
 use Rattle.fdoca.specs.Item.{Field}
 use Rattle.fdoca.specs.Unfolding.{Described, group_fields, add_fields}
-use Rattle.fdoca.proofs.Tests.{by_lt, by_eq}
 use Rattle.fields.specs.Plan.{entry_of}
-use Rattle.plans.specs.Tied.{described_by, groups_in, kind_of, kind_at, groups_at, row_list, Groups, Refers, RowAt}
-use Rattle.plans.specs.Writing.{group_at, group_list, end_of_cpt}
+use Rattle.plans.specs.Tied.{described_by, groups_in, kind_of, kind_at, groups_at, row_list, case_of, Groups, Refers, RowAt}
+use Rattle.plans.specs.Writing.{group_list}
 use Rattle.plans.proofs.Lists.{sets_append}
 
 -- ---- groups in bytes, three at a time
@@ -24,19 +27,12 @@ three d g h =
     rw (add-three, add-two, add-one)
     (rw (drop-cons d g 0 (omega arith), drop-cons d (suc g) 0 (omega arith), drop-cons d (suc (suc g)) 0 (omega arith)))
 
-too_short : (n : ℕ) (l : List ℕ) → length l < 3 → groups_in n l ≡ []
+pub too_short : (n : ℕ) (l : List ℕ) → length l < 3 → groups_in n l ≡ []
 unfolding groups_in
 too_short n [] h = refl
 too_short n (a ∷ []) h = refl
 too_short n (a ∷ b ∷ []) h = refl
 too_short n (a ∷ b ∷ c ∷ l) h = absurd (omega arith)
-
-long_enough : (P : Group → Type 0) (n : ℕ) (l : List ℕ) → 0 < n → Groups P n l → 3 ≤ length l
-unfolding Groups
-long_enough P n [] h r = omega arith
-long_enough P n (a ∷ []) h r = omega arith
-long_enough P n (a ∷ b ∷ []) h r = omega arith
-long_enough P n (a ∷ b ∷ c ∷ l) h r = omega arith
 
 module _ (n a b c : ℕ) (l : List ℕ) where
   first_group : 0 < n → groups_in n (a ∷ b ∷ c ∷ l) ≡ record { ref = a; byte1 = b; byte2 = c } ∷ groups_in (n - 3) l
@@ -51,79 +47,53 @@ module _ (n a b c : ℕ) (l : List ℕ) where
   unfolding groups_in
   no_more h e = simp (le-ltb _ _ h, ne_eqb _ _ e)
 
-  module _ (P : Group → Type 0) where
-    first_fine : 0 < n → Groups P n (a ∷ b ∷ c ∷ l) → P (record { ref = a; byte1 = b; byte2 = c }) × Groups P (n - 3) l
-    unfolding Groups
-    first_fine h r = simp (lt-ltb _ _ h) at r
+-- each of the groups in bytes has the property
+abbrev pub Each : (Group → Type 0) → List Group → Type 0
+Each P [] = Unit {0}
+Each P (g ∷ gs) = P g × Each P gs
 
-    behind_fine : n ≤ 0 → b ≡ 0x7F → Groups P n (a ∷ b ∷ c ∷ l) → Groups P (a - 3) l
-    unfolding Groups
-    behind_fine h e r = simp (le-ltb _ _ h, eq-eqb _ _ e) at r
+each_in : (P : Group → Type 0) (n : ℕ) (l : List ℕ) → Groups P n l → Each P (groups_in n l)
+unfolding Groups groups_in
+each_in P n [] r = tt
+each_in P n (a ∷ []) r = tt
+each_in P n (a ∷ b ∷ []) r = tt
+each_in P n (a ∷ b ∷ c ∷ l) r = go (ltb 0 n) (eqb b 0x7F) r (each_in P (n - 3) l) (each_in P (a - 3) l)
+  where
+    go : (u v : Bool) → case_of u (P (record { ref = a; byte1 = b; byte2 = c }) × Groups P (n - 3) l) (case_of v (Groups P (a - 3) l) (Unit {0}))
+        → (Groups P (n - 3) l → Each P (groups_in (n - 3) l)) → (Groups P (a - 3) l → Each P (groups_in (a - 3) l))
+        → Each P (if u then record { ref = a; byte1 = b; byte2 = c } ∷ groups_in (n - 3) l else if v then groups_in (a - 3) l else [])
+    go true v r x y = (r.0, x r.1)
+    go false true r x y = y r
+    go false false r x y = tt
 
--- ---- by position: the loop stands at g, and the triplet at hand ends at `end`
+-- ---- the same by the places of the bytes, as `next` reads them: of s, with n bytes of the triplet's own
 
-abbrev left : List ℕ → (g end : ℕ) → List Group
-left d g end = groups_in (end - g) (drop g d)
+module _ (s : List ℕ) (n : ℕ) (h : 3 ≤ length s) where
+  abbrev others : List ℕ
+  others = take (length s - 3) (drop 3 s)
 
-abbrev Left : List ℕ → List ℕ → (p g end : ℕ) → Type 0
-Left d s p g end = Groups (Refers (kind_at d p) d s p) (end - g) (drop g d)
+  pub first_left : (n ≡ 0 → ⊥) → (m : ℕ) → m ≡ n - 3
+      → groups_in n s ≡ record { ref = get_or s 0 0; byte1 = get_or s 1 0; byte2 = get_or s 2 0 } ∷ groups_in m others
+  first_left k m e =
+      ap (groups_in n) (three s 0 h)
+      ∙ first_group n _ _ _ _ (omega arith)
+      ∙ ap (λ (t : List ℕ). record { ref = get_or s 0 0; byte1 = get_or s 1 0; byte2 = get_or s 2 0 } ∷ groups_in (n - 3) t) (sym (take_rest s 3))
+      ∙ ap (λ (k : ℕ). record { ref = get_or s 0 0; byte1 = get_or s 1 0; byte2 = get_or s 2 0 } ∷ groups_in k others) (sym e)
 
-module _ (d s : List ℕ) (p g end : ℕ) (h : g < end) (r : Left d s p g end) where
-  whole : g + 3 ≤ length d
-  whole = omega (arith, long_enough (Refers (kind_at d p) d s p) (end - g) (drop g d) (omega arith) r, length-drop g d)
+  module _ (k : n ≡ 0) where
+    pub head_left : get_or s 1 0 ≡ 0x7F → (a m : ℕ) → a ≡ get_or s 0 0 → m ≡ a - 3 → groups_in n s ≡ groups_in m others
+    head_left c a m ea e =
+        ap (groups_in n) (three s 0 h)
+        ∙ behind_head n _ _ _ _ (omega arith) c
+        ∙ ap (groups_in (get_or s 0 0 - 3)) (sym (take_rest s 3))
+        ∙ ap (λ (j : ℕ). groups_in j others) (omega arith)
 
-  here : left d g end ≡ group_at d g ∷ left d (g + 3) end
-  unfolding group_at
-  here =
-      let e : end - g - 3 ≡ end - (g + 3) = omega arith in
-      ap (groups_in (end - g)) (three d g whole)
-      ∙ first_group (end - g) _ _ _ _ (omega arith)
-      ∙ ap (λ (n : ℕ). group_at d g ∷ groups_in n (drop (g + 3) d)) e
+    pub none_left : (get_or s 1 0 ≡ 0x7F → ⊥) → groups_in n s ≡ []
+    none_left c = ap (groups_in n) (three s 0 h) ∙ no_more n _ _ _ _ (omega arith) c
 
-  parted : Refers (kind_at d p) d s p (group_at d g) × Groups (Refers (kind_at d p) d s p) (end - g - 3) (drop (g + 3) d)
-  unfolding group_at
-  parted = first_fine (end - g) _ _ _ _ (Refers (kind_at d p) d s p) (omega arith) (subst (Groups (Refers (kind_at d p) d s p) (end - g)) (three d g whole) r)
-
-  others : Left d s p (g + 3) end
-  others =
-      let e : end - g - 3 ≡ end - (g + 3) = omega arith in
-      subst (λ (n : ℕ). Groups (Refers (kind_at d p) d s p) n (drop (g + 3) d)) e parted.1
-
-module _ (d : List ℕ) (g : ℕ) where
-  -- a CPT stands at g
-  at_cpt : (end_of_cpt d g ≡ 0 → ⊥) → (g + 3 ≤ length d) × (get_or d (g + 1) 0 ≡ 0x7F) × (end_of_cpt d g ≡ g + get_or d g 0)
-  unfolding end_of_cpt
-  at_cpt =
-      let P : ℕ → Type 0 = λ r. (r ≡ 0 → ⊥) → (g + 3 ≤ length d) × (get_or d (g + 1) 0 ≡ 0x7F) × (r ≡ g + get_or d g 0) in
-      by_lt P (length d - g) 3 (λ h z. absurd (z refl))
-      (λ h. by_eq P (get_or d (g + 1) 0) 0x7F (λ e z. (omega arith, e, refl)) (λ e z. absurd (z refl)))
-
-  -- none does
-  no_cpt_lem : (n : ℕ) → n ≤ 0 → 0 < g → end_of_cpt d g ≡ 0 → groups_in n (drop g d) ≡ []
-  unfolding end_of_cpt
-  no_cpt_lem n k z =
-      let P : ℕ → Type 0 = λ r. r ≡ 0 → groups_in n (drop g d) ≡ [] in
-      by_lt P (length d - g) 3 (λ h e. too_short n (drop g d) (omega (arith, length-drop g d)))
-      (λ h. by_eq P (get_or d (g + 1) 0) 0x7F (λ t e. absurd (omega arith))
-      (λ t e. ap (groups_in n) (three d g (omega arith)) ∙ no_more n _ _ _ _ k t))
-
-module _ (d s : List ℕ) (p g end : ℕ) (h : end ≤ g) (cpt_byte : end_of_cpt d g ≡ 0 → ⊥) where
-  next : left d g end ≡ left d (g + 3) (end_of_cpt d g)
-  next =
-      let c = at_cpt d g cpt_byte in
-      let e : end_of_cpt d g ≡ g + get_or d g 0 = c.2 in
-      let q : get_or d g 0 - 3 ≡ end_of_cpt d g - (g + 3) = omega arith in
-      ap (groups_in (end - g)) (three d g c.0)
-      ∙ behind_head (end - g) _ _ _ _ (omega arith) c.1
-      ∙ ap (λ (n : ℕ). groups_in n (drop (g + 3) d)) q
-
-  next_fine : Left d s p g end → Left d s p (g + 3) (end_of_cpt d g)
-  next_fine r =
-      let c = at_cpt d g cpt_byte in
-      let e : end_of_cpt d g ≡ g + get_or d g 0 = c.2 in
-      let q : get_or d g 0 - 3 ≡ end_of_cpt d g - (g + 3) = omega arith in
-      subst (λ (n : ℕ). Groups (Refers (kind_at d p) d s p) n (drop (g + 3) d)) q
-      (behind_fine (end - g) _ _ _ _ (Refers (kind_at d p) d s p) (omega arith) c.1 (subst (Groups (Refers (kind_at d p) d s p) (end - g)) (three d g c.0) r))
+-- where a group was given, fewer are left
+pub fewer : (left next : List Group) (g : Group) → left ≡ g ∷ next → length next < length left
+fewer left next g e = omega (arith, ap length e)
 
 -- ---- the list of groups
 
@@ -146,118 +116,91 @@ adds_none kind ds = refl
 
 -- ---- the measures: 2p for the row at p, 2q + 1 for a group whose id's triplet stands at q
 
-pub off : (q t : ℕ) → q + q + 1 ≡ t → q + q < t
-off q t e = omega arith
+pub off : (q t p : ℕ) → (p ≡ q) × (p < 65536) → q + q + 1 ≡ t → p + p < t
+off q t p h e = omega arith
 
 -- ---- the invariant: the groups passed made the fields `done`, and those that are left give the others of the row at p
 
-pub record Passed (d s : List ℕ) (p head g end : ℕ) (done : List Field) : Type 0 where
+pub record Passed (d s : List ℕ) (p head : ℕ) (left : List Group) (done : List Field) : Type 0 where
   pub head_is : head ≡ get_or d (p + 1) 0
-  pub parts : row_list d p ≡ done ++ add_fields (kind_at d p) (described_by d) [] (left d g end)
-  pub fine : Left d s p g end
-  pub beyond : p < g
-  pub inside : g ≤ length d
+  pub parts : row_list d p ≡ done ++ add_fields (kind_at d p) (described_by d) [] left
+  pub fine : Each (Refers (kind_at d p) d s p) left
+  pub inside : p ≤ length d
 
 module _ (d s : List ℕ) (p head : ℕ) where
-  pub none_passed : head ≡ get_or d (p + 1) 0 → RowAt d s p (row_list d p) → Passed d s p head (p + 3) (p + get_or d p 0) []
+  pub none_passed : head ≡ get_or d (p + 1) 0 → (left : List Group) → left ≡ groups_at d p → RowAt d s p (row_list d p) → Passed d s p head left []
   unfolding row_list groups_at
-  none_passed e r =
-      let q : get_or d p 0 - 3 ≡ p + get_or d p 0 - (p + 3) = omega arith in
+  none_passed e left u r =
       record {
         head_is = e;
-        parts = ap (λ (n : ℕ). add_fields (kind_at d p) (described_by d) [] (groups_in n (drop (p + 3) d))) q;
-        fine = subst (λ (n : ℕ). Groups (Refers (kind_at d p) d s p) n (drop (p + 3) d)) q r.groups;
-        beyond = omega arith;
-        inside = r.head;
+        parts = ap (add_fields (kind_at d p) (described_by d) []) (sym u);
+        fine = rw u (each_in (Refers (kind_at d p) d s p) (get_or d p 0 - 3) (drop (p + 3) d) r.groups);
+        inside = omega (arith, r.head);
       }
 
-  module _ (g end : ℕ) (done : List Field) (w : Passed d s p head g end done) where
-    -- at a group
-    module _ (h : g < end) where
-      pub within : g + 3 ≤ length d
-      within = whole d s p g end h w.fine
+  -- at a group
+  module _ (g : Group) (left : List Group) (done : List Field) (w : Passed d s p head (g ∷ left) done) where
+    pub refers : Refers (kind_of head) d s (length d) g
+    refers =
+        let r = w.fine.0 in
+        rw w.head_is (record { to = r.to; known = r.known; back = omega (arith, r.back, w.inside); id_fits = r.id_fits; makes = r.makes })
 
-      pub refers_back : Refers (kind_at d p) d s p (group_at d g)
-      refers_back = (parted d s p g end h w.fine).0
+    pub down : (t : ℕ) → p + p ≡ t → get_or s g.ref 0 + get_or s g.ref 0 + 1 < t
+    down t e = omega (arith, w.fine.0.back)
 
-      pub refers : Refers (kind_of head) d s (length d) (group_at d g)
-      refers =
-          let r = refers_back in
-          let b : get_or s (group_at d g).ref 0 < p = r.back in
-          rw w.head_is
-          (record { to = r.to; known = r.known; back = omega (arith, w.beyond, w.inside); id_fits = r.id_fits; makes = r.makes })
+    -- the fields of the groups behind it
+    abbrev pub rest : List Field
+    rest = add_fields (kind_at d p) (described_by d) [] left
 
-      pub down : (t : ℕ) → p + p ≡ t → get_or s (get_or d g 0) 0 + get_or s (get_or d g 0) 0 + 1 < t
-      unfolding group_at
-      down t e = omega (arith, refers_back.back)
+    pub split : row_list d p ≡ done ++ group_list d (kind_of head) g ++ rest
+    unfolding group_list
+    split =
+        rw w.head_is
+        (w.parts
+        ∙ ap (λ (l : List Field). done ++ l) (adds_first (kind_at d p) (described_by d) g left)
+        ∙ sym (append_assoc done (group_list d (kind_at d p) g) rest))
 
-      -- the fields of the groups behind it
-      abbrev pub rest : List Field
-      rest = add_fields (kind_at d p) (described_by d) [] (left d (g + 3) end)
+    pub one_passed : Passed d s p head left (done ++ group_list d (kind_of head) g)
+    one_passed = record { head_is = w.head_is; parts = split; fine = w.fine.1; inside = w.inside }
 
-      pub split : row_list d p ≡ done ++ group_list d (kind_of head) g ++ rest
-      unfolding group_list
-      split =
-          rw w.head_is
-          (w.parts
-          ∙ ap (λ (gs : List Group). done ++ add_fields (kind_at d p) (described_by d) [] gs) (here d s p g end h w.fine)
-          ∙ ap (λ (l : List Field). done ++ l) (adds_first (kind_at d p) (described_by d) (group_at d g) (left d (g + 3) end))
-          ∙ sym (append_assoc done (group_list d (kind_at d p) g) rest))
-
-      pub one_passed : Passed d s p head (g + 3) end (done ++ group_list d (kind_of head) g)
-      one_passed =
-          let b : p < g = w.beyond in
-          record { head_is = w.head_is; parts = split; fine = others d s p g end h w.fine; beyond = omega arith; inside = within }
-
-    -- behind the end of a triplet
-    module _ (h : end ≤ g) where
-      behind : (end_of_cpt d g ≡ 0 → ⊥) → Passed d s p head (g + 3) (end_of_cpt d g) done
-      behind c =
-          let b : p < g = w.beyond in
-          record {
-            head_is = w.head_is;
-            parts = w.parts ∙ ap (λ (gs : List Group). done ++ add_fields (kind_at d p) (described_by d) [] gs) (next d s p g end h c);
-            fine = next_fine d s p g end h c w.fine;
-            beyond = omega arith;
-            inside = (at_cpt d g c).0;
-          }
-
-      pub head_passed : (e : ℕ) → e ≡ end_of_cpt d g → (e ≡ 0 → ⊥) → Passed d s p head (g + 3) e done
-      head_passed e u z = subst (λ (n : ℕ). Passed d s p head (g + 3) n done) (sym u) (behind (λ c. z (u ∙ c)))
-
-      pub all_passed : (e : ℕ) → e ≡ end_of_cpt d g → e ≡ 0 → row_list d p ≡ done
-      all_passed e u z =
-          let b : p < g = w.beyond in
-          w.parts
-          ∙ ap (λ (gs : List Group). done ++ add_fields (kind_at d p) (described_by d) [] gs) (no_cpt_lem d g (end - g) (omega arith) (omega arith) (sym u ∙ z))
-          ∙ ap (λ (l : List Field). done ++ l) (adds_none (kind_at d p) (described_by d))
-          ∙ append-nil done
+  -- behind the last
+  pub all_passed : (done : List Field) → Passed d s p head [] done → row_list d p ≡ done
+  all_passed done w = w.parts ∙ ap (λ (l : List Field). done ++ l) (adds_none (kind_at d p) (described_by d)) ∙ append-nil done
 
 -- ---- and those fields are written
 
-pub record Going (d s : List ℕ) (p at head : ℕ) (plan₀ plan : List ℕ) (a g end : ℕ) : Type 0 where
+pub record Going (d s : List ℕ) (p at head : ℕ) (plan₀ plan : List ℕ) (a : ℕ) (left : List Group) : Type 0 where
   pub done : List Field
-  pub passed : Passed d s p head g end done
+  pub passed : Passed d s p head left done
   pub written : plan ≡ sets plan₀ at (map entry_of done)
   pub place : a ≡ at + length done
   pub same_length : length plan ≡ length plan₀
 
 module _ (d s : List ℕ) (p at head : ℕ) (plan₀ : List ℕ) where
-  pub start : head ≡ get_or d (p + 1) 0 → RowAt d s p (row_list d p) → Going d s p at head plan₀ plan₀ at (p + 3) (p + get_or d p 0)
-  start e r = record { done = []; passed = none_passed d s p head e r; written = refl; place = omega arith; same_length = refl }
+  pub start : head ≡ get_or d (p + 1) 0 → (left : List Group) → left ≡ groups_at d p → RowAt d s p (row_list d p) → Going d s p at head plan₀ plan₀ at left
+  start e left u r = record { done = []; passed = none_passed d s p head e left u r; written = refl; place = omega arith; same_length = refl }
 
-  module _ (plan : List ℕ) (a g end : ℕ) (w : Going d s p at head plan₀ plan a g end) where
+  module _ (plan : List ℕ) (a : ℕ) where
+    pub going_at : {left next : List Group} → left ≡ next → Going d s p at head plan₀ plan a left → Going d s p at head plan₀ plan a next
+    going_at e w = subst (Going d s p at head plan₀ plan a) e w
+
     -- at a group
-    module _ (h : g < end) where
+    module _ (g : Group) (left : List Group) (w : Going d s p at head plan₀ plan a (g ∷ left)) where
+      pub refers_here : Refers (kind_of head) d s (length d) g
+      refers_here = refers d s p head g left w.done w.passed
+
+      pub down_here : (t : ℕ) → p + p ≡ t → get_or s g.ref 0 + get_or s g.ref 0 + 1 < t
+      down_here = down d s p head g left w.done w.passed
+
       pub room : at + length (row_list d p) ≤ length plan₀ → a + length (group_list d (kind_of head) g) ≤ length plan
       room k =
           let l : List Field = group_list d (kind_of head) g in
-          let r : List Field = rest d s p head g end w.done w.passed h in
-          let e : length (row_list d p) ≡ length w.done + length l + length r = ap length (split d s p head g end w.done w.passed h) ∙ simp length-append in
+          let r : List Field = rest d s p head g left w.done w.passed in
+          let e : length (row_list d p) ≡ length w.done + length l + length r = ap length (split d s p head g left w.done w.passed) ∙ simp length-append in
           omega (arith, w.place, w.same_length)
 
       pub more : (plan' : List ℕ) (a' : ℕ) → plan' ≡ sets plan a (map entry_of (group_list d (kind_of head) g)) → a' ≡ a + length (group_list d (kind_of head) g)
-          → Going d s p at head plan₀ plan' a' (g + 3) end
+          → Going d s p at head plan₀ plan' a' left
       more plan' a' u v =
           let m : List Field = group_list d (kind_of head) g in
           let l : List ℕ = map entry_of m in
@@ -265,7 +208,7 @@ module _ (d s : List ℕ) (p at head : ℕ) (plan₀ : List ℕ) where
           let q : a ≡ at + length (map entry_of w.done) = w.place ∙ ap (λ (n : ℕ). at + n) (sym (length-map w.done entry_of)) in
           record {
             done = w.done ++ m;
-            passed = one_passed d s p head g end w.done w.passed h;
+            passed = one_passed d s p head g left w.done w.passed;
             written =
                 u
                 ∙ ap (λ (m : List ℕ). sets m a l) w.written
@@ -276,24 +219,13 @@ module _ (d s : List ℕ) (p at head : ℕ) (plan₀ : List ℕ) where
             same_length = ap length u ∙ length-sets plan a l ∙ w.same_length;
           }
 
-    -- behind the end of a triplet
-    module _ (h : end ≤ g) (e : ℕ) (u : e ≡ end_of_cpt d g) where
-      pub over : (e ≡ 0 → ⊥) → Going d s p at head plan₀ plan a (g + 3) e
-      over z =
-          record {
-            done = w.done;
-            passed = head_passed d s p head g end w.done w.passed h e u z;
-            written = w.written;
-            place = w.place;
-            same_length = w.same_length;
-          }
+    -- behind the last
+    module _ (w : Going d s p at head plan₀ plan a []) where
+      all_done : row_list d p ≡ w.done
+      all_done = all_passed d s p head w.done w.passed
 
-      module _ (z : e ≡ 0) where
-        all_done : row_list d p ≡ w.done
-        all_done = all_passed d s p head g end w.done w.passed h e u z
+      pub finish_place : a ≡ at + length (row_list d p)
+      finish_place = w.place ∙ ap (λ (l : List Field). at + length l) (sym all_done)
 
-        pub finish_place : a ≡ at + length (row_list d p)
-        finish_place = w.place ∙ ap (λ (l : List Field). at + length l) (sym all_done)
-
-        pub finish_written : plan ≡ sets plan₀ at (map entry_of (row_list d p))
-        finish_written = w.written ∙ ap (λ (l : List Field). sets plan₀ at (map entry_of l)) (sym all_done)
+      pub finish_written : plan ≡ sets plan₀ at (map entry_of (row_list d p))
+      finish_written = w.written ∙ ap (λ (l : List Field). sets plan₀ at (map entry_of l)) (sym all_done)

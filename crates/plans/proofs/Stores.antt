@@ -1,4 +1,4 @@
--- The loops of `fill` and `copies`: a list that is stored number by number.
+-- A run of one number, as `fill` writes it; and the loop of `copies`, a list that is stored number by number.
 -- Assumes nothing.
 use mathlib.Core.Path.{◌≡◌, refl, sym, ap, ◌∙◌}
 use mathlib.Core.List.{List, [], ◌∷◌, ◌++◌, append_assoc}
@@ -6,7 +6,10 @@ use Prim.Native.Nat.{ℕ, zero, suc, ◌+◌, ◌-◌, ◌*◌, ◌≤◌, ◌<�
 use native.Mathlib.Nat.{mul-zero}
 use native.Mathlib.Numerals.{add-one}
 use native.Mathlib.Omega.{arith}
-use lib.ListN.{length, take, drop, get_or, set, replicate, length-set, length-append, length-replicate, length-drop, get_or-replicate, get_or-append}
+use lib.ListN.{length, take, drop, get_or, set, replicate, length-set, length-append, length-replicate, length-drop, get_or-append}
+use Rattle.std.proofs.lemmas.List.Edits.{paste_all}
+use Rattle.std.proofs.lemmas.Slice.{put_mid-paste}
+use borrow.Rule.Slice.PartMut.{put_mid}
 use lib.Seq.{sets, sets-eq, length-take-le, take_all, take-suc, take-add, take-append-add, get_or-take, get_or-append-add}
 use Rattle.fdoca.specs.Basics.{repeat}
 use Rattle.plans.proofs.Lists.{length_repeat, repeat_behind, sets_append}
@@ -39,13 +42,16 @@ module _ (plan₀ plan v : List ℕ) (at k : ℕ) (w : Stored plan₀ plan v at 
 
 -- ---- `fill`
 
-pub filled_more : (plan₀ plan : List ℕ) (at n k x : ℕ) → Stored plan₀ plan (replicate n x) at k → k < n
-    → Stored plan₀ (set plan (at + k) x) (replicate n x) at (k + 1)
-filled_more plan₀ plan at n k x w h =
-    one_more plan₀ plan (replicate n x) at k w x (omega (arith, length-replicate n x)) (sym (get_or-replicate n k x 0 h))
-
-pub filled : (plan₀ plan : List ℕ) (at n k x : ℕ) → Stored plan₀ plan (replicate n x) at k → n ≤ k → plan ≡ sets plan₀ at (replicate n x)
-filled plan₀ plan at n k x w h = all_stored plan₀ plan (replicate n x) at k w (omega (arith, length-replicate n x))
+pub filled : (plan v : List ℕ) (at n x : ℕ) → at + n ≤ length plan → v ≡ replicate (length (take (at + n - at) (drop at plan))) x
+    → put_mid at (at + n - at) plan v ≡ sets plan at (replicate n x)
+filled plan v at n x h e =
+    let m : length (take (at + n - at) (drop at plan)) ≡ n = length-take-le (at + n - at) (drop at plan) (omega (arith, length-drop at plan)) ∙ omega arith in
+    let l : length (replicate n x) ≡ n = length-replicate n x in
+    put_mid-paste at (at + n - at) plan v (replicate n x) n (e ∙ rw m) (omega arith) (sym l)
+    ∙ paste_all plan at (replicate n x) n (sym l)
+    ∙ sym (append_assoc (take at plan) (replicate n x) (drop (at + n) plan))
+    ∙ ap (λ (k : ℕ). take at plan ++ replicate n x ++ drop (at + k) plan) (sym l)
+    ∙ sym (sets-eq (replicate n x) plan at (omega (arith, l)))
 
 -- ---- `copies`
 

@@ -9,6 +9,7 @@ use Rattle.fdoca.specs.Item.{Field}
 use Rattle.fdoca.specs.Check.{good_column}
 use Rattle.fdoca.specs.Unfolding.{Described, array, row, fields_referred, closed, add_fields, unfold_triplets, start}
 use Rattle.fields.specs.Plan.{entry_of, Proper}
+use Rattle.tables.specs.Lists.{Lists}
 
 -- All described ids of a descriptor, and the list that an id stands for.
 unfoldable pub described_by : List ℕ → List (ℕ × Described)
@@ -110,6 +111,10 @@ Kept d s z e i (row l) = RowKept d s e i l
 pub record Tied (d s z e : List ℕ) : Type 0 where
   pub small : length d ≤ 4096
   pub each : (i : ℕ) (D : Described) → lookup i (described_by d) ≡ some D → Kept d s z e i D
+
+-- The same, of the tables as one value.
+abbrev pub TiedTo : List ℕ → Lists → Type 0
+TiedTo d t = Tied d t.starts t.sizes t.entries
 
 -- An id is described.
 pub record Known (d : List ℕ) (id : ℕ) : Type 0 where

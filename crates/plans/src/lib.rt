@@ -2,12 +2,15 @@
 
 #![tactic(auto)]
 
-ghost use Rattle.std.specs.Prelude.{◌≡◌, ◌+◌, ◌-◌, ◌*◌, ◌≤◌, ◌<◌, map, length, take, drop, replicate};
+ghost use Rattle.std.specs.Prelude.{◌≡◌, ◌+◌, ◌-◌, ◌*◌, ◌≤◌, ◌<◌, map, length, get_or, take, drop, replicate};
 ghost use Rattle.std.proofs.lemmas.List.Edits.{sets};
 ghost use Rattle.fdoca.specs.Basics.{repeat};
 ghost use Rattle.fields.specs.Plan.{entry_of};
-ghost use Rattle.plans.specs.Tied.{list_of, kind_of, row_list, Refers, RowAt, Tied, Known};
-ghost use Rattle.plans.specs.Writing.{group_at, group_list, column_list, ColumnAt, entries_taken, end_of_cpt};
+ghost use Rattle.plans.specs.Tied.{list_of, kind_of, groups_at, row_list, Refers, RowAt, TiedTo, Known};
+ghost use Rattle.plans.specs.Left.{group_of};
+ghost use Rattle.plans.specs.Writing.{group_list, entries_taken};
+
+use tables::Tables;
 
 // The construct types of a GDA and a CPT.
 pub const GDA: u8 = 0x75;
@@ -20,11 +23,7 @@ pub fn fill(plan: &mut [u64], at: usize, n: usize, entry: u64) -> usize
     ensures value { result ≡ at + n }
     ensures plan_after { plan.new ≡ sets plan.old at (replicate n entry) }
 {
-    let mut k = 0;
-    while k < n {
-        plan[at + k] = entry;
-        k += 1;
-    }
+    plan[at..at + n].fill(entry);
     at + n
 }
 
@@ -35,139 +34,147 @@ fn copies(plan: &mut [u64], from: usize, to: usize, more: usize) -> usize
     ensures plan_after { plan.new ≡ sets plan.old to (repeat more (take (to - from) (drop from plan.old))) }
 {
     let n = more * (to - from);
-    let mut k = 0;
-    while k < n {
+    // By place: what a copy reads may be what the copy before it wrote.
+    for k in 0..n {
         plan[to + k] = plan[from + k];
-        k += 1;
     }
     to + n
 }
 
-// How many items a group takes once of an SDA. The size holds its count and, 65,536 times, the product of its lower extents, by which
-// elements taken above 0 is multiplied.
-pub fn taken_count(size: u32, taken: u8) -> usize
-    ensures { (result ≡ entries_taken size taken) × (result < 16777216) }
+// How many items a group takes once of an SDA's id: all, or elements taken times the product of the lower extents.
+pub fn taken_count(tables: &Tables, id: u8, taken: u8) -> usize
+    ensures { (result ≡ entries_taken (get_or tables.now.sizes id 0) taken) × (result < 16777216) }
 {
     if taken == 0 {
-        return (size % 65536) as usize;
+        return tables.count(id);
     }
-    taken as usize * (size / 65536) as usize
+    usize::from(taken) * tables.lower(id)
 }
 
-// The end of the CPT at g; 0 where none stands there.
-pub fn cpt_end(desc: &[u8], g: usize) -> usize
-    requires { g ≤ length desc.now }
-    ensures { result ≡ end_of_cpt desc.now g }
-{
-    if desc.len() - g < 3 {
-        return 0;
-    }
-    if desc[g + 1] != CPT {
-        return 0;
-    }
-    g + desc[g] as usize
+// Three bytes of an RLO, a GDA or a CPT: the id of a triplet, and in an RLO elements taken and the repetition factor, in a GDA the length.
+#[derive(Clone, Copy)]
+pub struct Group {
+    pub id: u8,
+    pub byte1: u8,
+    pub byte2: u8,
 }
 
-// Writes the column of a GDA's group at g to `at`, and gives the place behind it: the entry of the SDA's field, with the length that holds.
-fn column(desc: &[u8], entries: &[u64; 256], plan: &mut [u64], g: usize, at: usize) -> usize
-    requires { (g + 3 ≤ length desc.now) × ColumnAt desc.now entries.now g × (at + 1 ≤ length plan.old) }
-    ensures value { result ≡ at + length (column_list desc.now g) }
-    ensures plan_after { plan.new ≡ sets plan.old at (map entry_of (column_list desc.now g)) }
-{
-    let id = numbers::wide(desc[g]);
-    let own = entries[id];
-    plan[at] = fields::replaced(own, desc[g + 1], desc[g + 2]);
-    at + 1
+// The groups of an RLO or a GDA and of the CPTs right behind it: the bytes behind the groups given so far, `own` of them the triplet's own.
+#[derive(Drop)]
+pub struct Groups<'a> {
+    bytes: &'a [u8],
+    own: usize,
+}
+
+impl<'a> Groups<'a> {
+    ghost use Rattle.plans.specs.Left.{groups_left};
+
+    // The groups of the row at p.
+    pub fn of(desc: &'a [u8], p: usize) -> Groups<'a>
+        requires { p + 3 ≤ length desc.now }
+        ensures { groups_left result ≡ groups_at desc.now p }
+    {
+        Groups {
+            bytes: &desc[p + 3..],
+            own: usize::from(desc[p]).saturating_sub(3),
+        }
+    }
+}
+
+impl<'a> Iterator for Groups<'a> {
+    type Item = Group;
+
+    ghost use Rattle.std.specs.Iterator.{YieldsFirstBy, item_count};
+    ghost use Rattle.plans.specs.Left.{group_of, groups_left};
+
+    ghost next_gives = { YieldsFirstBy group_of groups_left };
+
+    ghost remaining = { item_count groups_left };
+
+    fn next(&mut self) -> Option<Group> {
+        while let [id, byte1, byte2, others @ ..] = self.bytes {
+            if self.own != 0 {
+                self.bytes = others;
+                self.own = self.own.saturating_sub(3);
+                return Some(Group {
+                    id: *id,
+                    byte1: *byte1,
+                    byte2: *byte2,
+                });
+            }
+            if *byte1 != CPT {
+                return None;
+            }
+            self.bytes = others;
+            self.own = usize::from(*id).saturating_sub(3);
+        }
+        None
+    }
 }
 
 // Writes the list of the row at p from `at` on, group by group, and gives the place behind it.
 #[cycle(expand_group)]
-pub fn expand(
-    desc: &[u8],
-    starts: &[u16; 256],
-    sizes: &[u32; 256],
-    entries: &[u64; 256],
-    plan: &mut [u64],
-    p: usize,
-    at: usize,
-) -> usize
-    requires { Tied desc.now starts.now sizes.now entries.now × RowAt desc.now starts.now p (row_list desc.now p)
+pub fn expand(desc: &[u8], tables: &Tables, plan: &mut [u64], p: usize, at: usize) -> usize
+    requires { TiedTo desc.now tables.now × RowAt desc.now tables.now.starts p (row_list desc.now p)
         × (at + length (row_list desc.now p) ≤ length plan.old) }
     ensures value { result ≡ at + length (row_list desc.now p) }
     ensures plan_after { plan.new ≡ sets plan.old at (map entry_of (row_list desc.now p)) }
 {
     let head = desc[p + 1];
-    let mut a = at;
-    let mut g = p + 3;
-    let mut end = p + desc[p] as usize;
-    loop {
-        if g < end {
-            a = group(desc, starts, sizes, entries, plan, g, a, head);
-        } else {
-            end = cpt_end(desc, g);
-            if end == 0 {
-                return a;
-            }
-        }
-        g += 3;
+    let mut end = at;
+    for group in Groups::of(desc, p) {
+        end = write_group(desc, tables, plan, group, end, head);
     }
+    end
 }
 
-// Writes the list of the group at g from `at` on, and gives the place behind it. `head` is the construct type of the row's head. A row that
+// Writes the list of a group from `at` on, and gives the place behind it. `head` is the construct type of the row's head. A row that
 // the group refers to is written by going down to it once; its repetitions are copies. A factor of 0 adds nothing (document 02, Q-5).
+// What a group of a GDA writes is the entry of the SDA's field, with the length that holds.
 #[cycle(expand_group)]
-fn group(
+fn write_group(
     desc: &[u8],
-    starts: &[u16; 256],
-    sizes: &[u32; 256],
-    entries: &[u64; 256],
+    tables: &Tables,
     plan: &mut [u64],
-    g: usize,
+    group: Group,
     at: usize,
     head: u8,
 ) -> usize
-    requires { Tied desc.now starts.now sizes.now entries.now × (g + 3 ≤ length desc.now)
-        × Refers (kind_of head) desc.now starts.now (length desc.now) (group_at desc.now g)
-        × (at + length (group_list desc.now (kind_of head) g) ≤ length plan.old) }
-    ensures value { result ≡ at + length (group_list desc.now (kind_of head) g) }
-    ensures plan_after { plan.new ≡ sets plan.old at (map entry_of (group_list desc.now (kind_of head) g)) }
+    requires { TiedTo desc.now tables.now
+        × Refers (kind_of head) desc.now tables.now.starts (length desc.now) (group_of group)
+        × (at + length (group_list desc.now (kind_of head) (group_of group)) ≤ length plan.old) }
+    ensures value { result ≡ at + length (group_list desc.now (kind_of head) (group_of group)) }
+    ensures plan_after { plan.new ≡ sets plan.old at (map entry_of (group_list desc.now (kind_of head) (group_of group))) }
 {
     if head == GDA {
-        return column(desc, entries, plan, g, at);
+        let own = tables.field(group.id).unwrap();
+        plan[at] = fields::replaced(own, group.byte1, group.byte2);
+        return at + 1;
     }
-    let id = desc[g] as usize;
-    let taken = desc[g + 1];
-    let factor = desc[g + 2] as usize;
+    let factor = usize::from(group.byte2);
     if factor == 0 {
         return at;
     }
-    let entry = entries[id];
-    if entry == 0 {
-        let once = expand(desc, starts, sizes, entries, plan, starts[id] as usize, at);
-        return copies(plan, at, once, factor - 1);
+    match tables.field(group.id) {
+        Some(entry) => {
+            let n = factor * taken_count(tables, group.id, group.byte1);
+            fill(plan, at, n, entry)
+        }
+        None => {
+            let once = expand(desc, tables, plan, tables.start(group.id), at);
+            copies(plan, at, once, factor - 1)
+        }
     }
-    let n = factor * taken_count(sizes[id], taken);
-    fill(plan, at, n, entry)
 }
 
 // Writes the list of the id, from the plan's beginning on.
-pub fn write(
-    desc: &[u8],
-    starts: &[u16; 256],
-    sizes: &[u32; 256],
-    entries: &[u64; 256],
-    plan: &mut [u64],
-    id: u8,
-)
-    requires { Tied desc.now starts.now sizes.now entries.now × Known desc.now id
+pub fn write(desc: &[u8], tables: &Tables, plan: &mut [u64], id: u8)
+    requires { TiedTo desc.now tables.now × Known desc.now id
         × (length (list_of desc.now id) ≤ length plan.old) }
     ensures { plan.new ≡ sets plan.old 0 (map entry_of (list_of desc.now id)) }
 {
-    let i = id as usize;
-    let entry = entries[i];
-    if entry == 0 {
-        expand(desc, starts, sizes, entries, plan, starts[i] as usize, 0);
-    } else {
-        fill(plan, 0, taken_count(sizes[i], 0), entry);
-    }
+    match tables.field(id) {
+        Some(entry) => fill(plan, 0, tables.count(id), entry),
+        None => expand(desc, tables, plan, tables.start(id), 0),
+    };
 }

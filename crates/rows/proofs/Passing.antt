@@ -1,11 +1,9 @@
 -- One pass over a layout, by what the group's id describes; and the plan with what stands before it.
 -- Assumes nothing.
 use mathlib.Core.Path.{◌≡◌, sym, ap, ◌∙◌}
-use mathlib.Core.List.{List, [], ◌∷◌, ◌++◌, map, map-append}
+use mathlib.Core.List.{List, ◌++◌, map, map-append}
 use Prim.Native.Nat.{ℕ, ◌+◌, ◌-◌, ◌≤◌, ◌<◌, min}
 use native.Mathlib.Omega.{arith}
-use mir.Syntax.{w64}
-use mir.Val.{Fits}
 use lib.ListN.{length, get_or, take, replicate, length-map}
 use lib.Seq.{sets, take_all}
 use Rattle.fdoca.specs.Item.{Field}
@@ -18,63 +16,51 @@ use Rattle.rows.proofs.Stores.{take_replicate, joined}
 
 -- ---- `pass`
 
-module _ (d s z e : List ℕ) (g i : ℕ) (tied : Tied d s z e) (k : PassAt d g) (ei : i ≡ get_or d g 0) where
+module _ (d s z e : List ℕ) (g : ℕ) (tied : Tied d s z e) (k : PassAt d g) where
   -- the id is a row's
-  module _ (m : get_or e i 0 ≡ 0) where
-    pub row_pass : (pass_list d g ≡ row_list d (get_or s i 0)) × RowAt d s (get_or s i 0) (row_list d (get_or s i 0))
+  module _ (m : get_or e (get_or d g 0) 0 ≡ 0) (p : ℕ) (ep : (p ≡ get_or s (get_or d g 0) 0) × (p < 65536)) where
+    pub row_pass : (pass_list d g ≡ row_list d p) × RowAt d s p (row_list d p)
     unfolding pass_list group_at
-    row_pass = rw ei (row_fields d s z e (get_or d g 0) (get_or d (g + 1) 0) tied k.to k.known (rw ei at m))
+    row_pass = rw ep.0 (row_fields d s z e (get_or d g 0) (get_or d (g + 1) 0) tied k.to k.known m)
 
-    pub pass_made : RowAt d s (get_or s i 0) (row_list d (get_or s i 0))
+    pub pass_made : RowAt d s p (row_list d p)
     pass_made = row_pass.1
 
-    pub pass_fits : Fits w64 (get_or s i 0)
-    pass_fits = omega (arith, pass_made.head, tied.small)
+    pub pass_room : (size : ℕ) → Room d e g size → 0 + length (row_list d p) ≤ size
+    pass_room size h = let l : length (pass_list d g) ≤ size = h m in omega (arith, ap length row_pass.0)
 
-    pub pass_room : (size : ℕ) → Room d e g size → 0 + length (row_list d (get_or s i 0)) ≤ size
-    pass_room size h = let l : length (pass_list d g) ≤ size = h (rw ei at m) in omega (arith, ap length row_pass.0)
-
-    pub row_count : (r : ℕ) → r ≡ 0 + length (row_list d (get_or s i 0)) → r ≡ length (pass_list d g)
+    pub row_count : (r : ℕ) → r ≡ 0 + length (row_list d p) → r ≡ length (pass_list d g)
     row_count r u = omega (arith, ap length row_pass.0)
 
-    pub row_small : (plan : List ℕ) (r : ℕ) → Room d e g (length plan) → length plan ≤ 4096 → r ≡ 0 + length (row_list d (get_or s i 0)) → r < 16777216
-    row_small plan r h l u = omega (arith, h (rw ei at m), row_count r u)
+    pub row_small : (plan : List ℕ) (r : ℕ) → Room d e g (length plan) → length plan ≤ 4096 → r ≡ 0 + length (row_list d p) → r < 16777216
+    row_small plan r h l u = omega (arith, h m, row_count r u)
 
-    pub row_passed : (plan plan' : List ℕ) → Room d e g (length plan) → plan' ≡ sets plan 0 (map entry_of (row_list d (get_or s i 0)))
+    pub row_passed : (plan plan' : List ℕ) → Room d e g (length plan) → plan' ≡ sets plan 0 (map entry_of (row_list d p))
         → plan' ≡ sets plan 0 (take (length plan) (map entry_of (pass_list d g)))
     row_passed plan plan' h u =
-        let l : length (pass_list d g) ≤ length plan = h (rw ei at m) in
+        let l : length (pass_list d g) ≤ length plan = h m in
         u
         ∙ ap (λ (x : List Field). sets plan 0 (map entry_of x)) (sym row_pass.0)
         ∙ ap (sets plan 0) (sym (take_all (length plan) (map entry_of (pass_list d g)) (omega (arith, length-map (pass_list d g) entry_of))))
 
   -- the id is an SDA's
-  module _ (m : get_or e i 0 ≡ 0 → ⊥) (n : ℕ) (c : n ≡ entries_taken (get_or z i 0) (get_or d (g + 1) 0)) where
-    sda_pass : (map entry_of (pass_list d g) ≡ replicate n (get_or e i 0)) × (length (pass_list d g) ≡ n)
+  module _ (marked : 0 < get_or e (get_or d g 0) 0) (n : ℕ) (c : (n ≡ entries_taken (get_or z (get_or d g 0) 0) (get_or d (g + 1) 0)) × (n < 16777216)) where
+    sda_pass : (map entry_of (pass_list d g) ≡ replicate n (get_or e (get_or d g 0) 0)) × (length (pass_list d g) ≡ n)
     unfolding pass_list group_at
     sda_pass =
-        let w = sda_fields d s z e (get_or d g 0) (get_or d (g + 1) 0) tied k.to k.known k.takes (rw ei at m) in
-        same_fields (pass_list d g) n (get_or e i 0) w.0 (w.1 ∙ rw (c, ei)) (w.2 ∙ rw ei)
+        let w = sda_fields d s z e (get_or d g 0) (get_or d (g + 1) 0) tied k.to k.known k.takes (λ y. omega arith) in
+        same_fields (pass_list d g) n (get_or e (get_or d g 0) 0) w.0 (w.1 ∙ rw c.0) w.2
 
     pub sda_count : n ≡ length (pass_list d g)
     sda_count = sym sda_pass.1
 
-    pub sda_passed : (plan plan' : List ℕ) (q : ℕ) → q ≡ min n (length plan) → plan' ≡ sets plan 0 (replicate q (get_or e i 0))
+    pub sda_passed : (plan plan' : List ℕ) (x q : ℕ) → x ≡ get_or e (get_or d g 0) 0 → q ≡ min n (length plan) → plan' ≡ sets plan 0 (replicate q x)
         → plan' ≡ sets plan 0 (take (length plan) (map entry_of (pass_list d g)))
-    sda_passed plan plan' q eq u = u ∙ rw (eq, sda_pass.0, take_replicate n (length plan) (get_or e i 0))
+    sda_passed plan plan' x q ex eq u = u ∙ rw (eq, ex, sda_pass.0, take_replicate n (length plan) (get_or e (get_or d g 0) 0))
 
 -- ---- `write`
 
 module _ (plan : List ℕ) (l m : List Field) where
-  -- no field before
-  pub nothing_before : (plan₁ : List ℕ) (before : ℕ) → before ≡ length l → before ≡ 0 → plan₁ ≡ sets plan 0 (take (length plan) (map entry_of m))
-      → plan₁ ≡ sets plan 0 (take (length plan) (map entry_of (l ++ m)))
-  nothing_before plan₁ before e z u = go l (sym e ∙ z)
-    where
-      go : (l : List Field) → length l ≡ 0 → plan₁ ≡ sets plan 0 (take (length plan) (map entry_of (l ++ m)))
-      go [] q = u
-      go (f ∷ l) q = absurd (omega arith)
-
   module _ (before : ℕ) (e : before ≡ length l) (room : before ≤ length plan) where
     pub moved_behind : (plan₁ plan₂ plan₃ : List ℕ) (n q : ℕ) → plan₁ ≡ sets plan 0 (take (length plan) (map entry_of m)) → n ≡ length m
         → q ≡ min n (length plan₁ - before) → length plan₁ ≡ length plan → plan₂ ≡ sets plan₁ before (take q plan₁) → plan₃ ≡ sets plan₂ 0 (map entry_of l)

@@ -1,21 +1,18 @@
--- Runs of stores: the loop of `move_up`, and the three runs of `write`, which are one.
+-- Runs of stores: the three runs of `write`, which are one.
 -- Assumes nothing.
 use mathlib.Core.Path.{◌≡◌, refl, sym, ap, ◌∙◌}
 use mathlib.Core.List.{List, [], ◌∷◌, ◌++◌}
 use Prim.Native.Nat.{ℕ, zero, suc, ◌+◌, ◌-◌, ◌≤◌, ◌<◌, min}
-use native.Mathlib.Nat.{add-zero, zero-add}
+use native.Mathlib.Nat.{zero-add, sub-zero}
 use native.Mathlib.Numerals.{unary_clauses}
 use native.Mathlib.Omega.{arith}
-use lib.ListN.{length, get_or, set, take, drop, replicate, length-append, length-set, length-take, drop_of_length-le}
-use lib.Seq.{sets, sets-eq, length-sets, length-take-le, take-nil, take-take, take-append-le, take-append-add, drop-append-add, drop-drop, drop-cons, get_or-take, get_or-set_other, set_comm}
+use Rattle.std.specs.List.{copy_within}
+use lib.ListN.{length, set, take, drop, replicate, length-append, length-take}
+use lib.Seq.{sets, sets-eq, length-sets, length-take-le, take-nil, take-take, take-append-le, take-append-add, drop-append-add, drop-drop, set_comm}
 use Rattle.plans.proofs.Lists.{sets_append}
 
 module _ {A : Type 0} where
-  -- stores behind a place leave what stands there, and a store there can come first
-  read_before : (s v : List A) (i j : ℕ) (x : A) → i < j → get_or (sets s j v) i x ≡ get_or s i x
-  read_before s [] i j x h = refl
-  read_before s (a ∷ v) i j x h = read_before (set s j a) v i (suc j) x (omega arith) ∙ get_or-set_other s j i a x (λ e. omega arith)
-
+  -- a store before others can come first
   store_before : (s v : List A) (i j : ℕ) (a : A) → i < j → set (sets s j v) i a ≡ sets (set s i a) j v
   store_before s [] i j a h = refl
   store_before s (b ∷ v) i j a h =
@@ -52,46 +49,12 @@ module _ {A : Type 0} where
   take_replicate (suc n) zero a = simp unary_clauses
   take_replicate (suc n) (suc m) a = simp unary_clauses (ap (λ (t : List A). a ∷ t) (take_replicate n m a))
 
--- ---- `move_up`: the numbers from k on are moved
+-- ---- the first n numbers, copied to `by`
 
-pub record Moved (plan₀ plan : List ℕ) (n by k : ℕ) : Type 0 where
-  pub moved : plan ≡ sets plan₀ (by + k) (drop k (take n plan₀))
-  pub within : k ≤ n
-  pub same_length : length plan ≡ length plan₀
-
-module _ (plan₀ : List ℕ) (n by : ℕ) (room : by + n ≤ length plan₀) where
-  first : length (take n plan₀) ≡ n
-  first = length-take-le n plan₀ (omega arith)
-
-  pub none_moved : Moved plan₀ plan₀ n by n
-  none_moved =
-      record { moved = ap (sets plan₀ (by + n)) (sym (drop_of_length-le (take n plan₀) {i = n} (omega (arith, first)))); within = omega arith; same_length = refl }
-
-  module _ (plan : List ℕ) (k : ℕ) (w : Moved plan₀ plan n by k) where
-    pub one_moved : 0 < k → Moved plan₀ (set plan (by + (k - 1)) (get_or plan (k - 1) 0)) n by (k - 1)
-    one_moved h =
-        let j : ℕ = k - 1 in
-        let t : List ℕ = take n plan₀ in
-        let l : k ≤ n = w.within in
-        let ek : k ≡ suc j = omega arith in
-        let eb : by + k ≡ suc (by + j) = omega arith in
-        let e : plan ≡ sets plan₀ (suc (by + j)) (drop (suc j) t) = w.moved ∙ ap (λ (x : ℕ). sets plan₀ x (drop k t)) eb ∙ ap (λ (x : ℕ). sets plan₀ (suc (by + j)) (drop x t)) ek in
-        let read : get_or plan j 0 ≡ get_or t j 0 =
-        ap (λ (x : List ℕ). get_or x j 0) e ∙ read_before plan₀ (drop (suc j) t) j (suc (by + j)) 0 (omega arith) ∙ sym (get_or-take n plan₀ j 0 (omega arith)) in
-        record {
-          moved =
-              ap (λ (x : List ℕ). set x (by + j) (get_or plan j 0)) e
-              ∙ ap (set (sets plan₀ (suc (by + j)) (drop (suc j) t)) (by + j)) read
-              ∙ store_before plan₀ (drop (suc j) t) (by + j) (suc (by + j)) (get_or t j 0) (omega arith)
-              ∙ ap (sets plan₀ (by + j)) (sym (drop-cons t j 0 (omega (arith, first))));
-          within = omega arith;
-          same_length = length-set plan (by + j) (get_or plan j 0) ∙ w.same_length;
-        }
-
-    pub all_moved : k ≤ 0 → plan ≡ sets plan₀ by (take n plan₀)
-    all_moved h =
-        let e : k ≡ 0 = omega arith in
-        w.moved ∙ ap (λ (x : ℕ). sets plan₀ (by + x) (drop x (take n plan₀))) e ∙ ap (λ (x : ℕ). sets plan₀ x (take n plan₀)) (add-zero by)
+pub moved : (plan plan' : List ℕ) (n by : ℕ) → by + n ≤ length plan → plan' ≡ copy_within plan 0 n by → plan' ≡ sets plan by (take n plan)
+moved plan plan' n by room e =
+    let l : length (take n plan) ≡ n = length-take-le n plan (omega arith) in
+    e ∙ rw (sub-zero) (ap (λ (k : ℕ). take by plan ++ take n plan ++ drop (by + k) plan) (sym l) ∙ sym (sets-eq (take n plan) plan by (omega (arith, l))))
 
 -- ---- `write`: the numbers p from the beginning on, cut; then moved up by as many as a has, as far as there is room; then those of a
 

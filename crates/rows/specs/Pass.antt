@@ -2,15 +2,19 @@
 use Rattle.std.specs.Prelude.{ℕ, ◌+◌, ◌/◌, ◌%◌, ◌≤◌, ◌≡◌, Bool, ◌&&◌, List, eqb, length, get_or}
 use Rattle.std.proofs.Math.Option.{some}
 use Rattle.fdoca.specs.Basics.{lookup}
-use Rattle.fdoca.specs.Triplet.{taken}
+use Rattle.fdoca.specs.Triplet.{Group, taken}
 use Rattle.fdoca.specs.Item.{Field}
 use Rattle.fdoca.specs.Unfolding.{Described, fields_referred}
 use Rattle.plans.specs.Tied.{described_by, Takes, Tied}
 use Rattle.plans.specs.Writing.{group_at}
 
--- The fields of a pass: the list of what the group at g refers to, taken once.
+-- The layout of a group: the list of what it refers to, taken once.
+abbrev pub layout_list : List ℕ → Group → List Field
+layout_list d g = fields_referred (taken g) (lookup g.ref (described_by d))
+
+-- The fields of a pass: the layout of the group at g.
 unfoldable pub pass_list : List ℕ → (g : ℕ) → List Field
-pass_list d g = fields_referred (taken (group_at d g)) (lookup (group_at d g).ref (described_by d))
+pass_list d g = layout_list d (group_at d g)
 
 -- The group at g refers to a described id, of which it can take its elements.
 pub record PassAt (d : List ℕ) (g : ℕ) : Type 0 where

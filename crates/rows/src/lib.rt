@@ -6,43 +6,29 @@ ghost use Rattle.std.specs.Prelude.{◌≡◌, ◌+◌, ◌≤◌, ◌<◌, map,
 ghost use Rattle.std.proofs.lemmas.List.Edits.{sets};
 ghost use Rattle.fields.specs.Plan.{entry_of};
 ghost use Rattle.fdoca.specs.Unfolding.{endless};
-ghost use Rattle.plans.specs.Tied.{list_of, kind_of, row_list, Refers, RowAt, Tied, Known};
-ghost use Rattle.plans.specs.Writing.{group_at, group_list};
-ghost use Rattle.rows.specs.Pass.{pass_list, PassAt, Room, TiedSome, no_data};
+ghost use Rattle.plans.specs.Tied.{list_of, kind_of, row_list, Refers, RowAt, TiedTo, Known};
+ghost use Rattle.plans.specs.Left.{group_of};
+ghost use Rattle.plans.specs.Writing.{group_list, RefersRow};
+ghost use Rattle.rows.specs.Pass.{layout_list, pass_list, PassAt, Room, TiedSome, no_data};
+
+use plans::{Group, Groups};
+use tables::Tables;
 
 // Writes one pass over the layout of the group at g, from the plan's beginning on, cut at the plan's end, and gives the items of a whole pass.
-fn pass(
-    desc: &[u8],
-    starts: &[u16; 256],
-    sizes: &[u32; 256],
-    entries: &[u64; 256],
-    plan: &mut [u64],
-    g: usize,
-) -> usize
-    requires { Tied desc.now starts.now sizes.now entries.now × PassAt desc.now g × Room desc.now entries.now g (length plan.old)
+fn pass(desc: &[u8], tables: &Tables, plan: &mut [u64], g: usize) -> usize
+    requires { TiedTo desc.now tables.now × PassAt desc.now g × Room desc.now tables.now.entries g (length plan.old)
         × (length plan.old ≤ 4096) }
     ensures value { (result ≡ length (pass_list desc.now g)) × (result < 16777216) }
     ensures plan_after { plan.new ≡ sets plan.old 0 (take (length plan.old) (map entry_of (pass_list desc.now g))) }
 {
-    let id = numbers::wide(desc[g]);
-    let entry = entries[id];
-    if entry == 0 {
-        return plans::expand(desc, starts, sizes, entries, plan, starts[id] as usize, 0);
-    }
-    let n = plans::taken_count(sizes[id], desc[g + 1]);
-    plans::fill(plan, 0, numbers::least(n, plan.len()), entry);
-    n
-}
-
-// Moves the first n entries up by so many places, the last one first.
-fn move_up(plan: &mut [u64], n: usize, by: usize)
-    requires { by + n ≤ length plan.old }
-    ensures { plan.new ≡ sets plan.old by (take n plan.old) }
-{
-    let mut k = n;
-    while k > 0 {
-        k -= 1;
-        plan[by + k] = plan[k];
+    let id = desc[g];
+    match tables.field(id) {
+        Some(entry) => {
+            let n = plans::taken_count(tables, id, desc[g + 1]);
+            plans::fill(plan, 0, n.min(plan.len()), entry);
+            n
+        }
+        None => plans::expand(desc, tables, plan, tables.start(id), 0),
     }
 }
 
@@ -50,27 +36,26 @@ fn move_up(plan: &mut [u64], n: usize, by: usize)
 // plan's end. Gives the items of a whole pass.
 pub fn write(
     desc: &[u8],
-    starts: &[u16; 256],
-    sizes: &[u32; 256],
-    entries: &[u64; 256],
+    tables: &Tables,
     plan: &mut [u64],
     id: u8,
     before: usize,
     g: usize,
 ) -> usize
-    requires { Tied desc.now starts.now sizes.now entries.now × Known desc.now id × PassAt desc.now g
-        × Room desc.now entries.now g (length plan.old) × (before ≡ length (list_of desc.now id)) × (before ≤ length plan.old)
+    requires { TiedTo desc.now tables.now × Known desc.now id × PassAt desc.now g
+        × Room desc.now tables.now.entries g (length plan.old) × (before ≡ length (list_of desc.now id)) × (before ≤ length plan.old)
         × (length plan.old ≤ 4096) }
     ensures value { (result ≡ length (pass_list desc.now g)) × (result < 16777216) }
     ensures plan_after { plan.new ≡ sets plan.old 0
         (take (length plan.old) (map entry_of (list_of desc.now id ++ pass_list desc.now g))) }
 {
-    let n = pass(desc, starts, sizes, entries, plan, g);
+    let n = pass(desc, tables, plan, g);
     if before == 0 {
         return n;
     }
-    move_up(plan, numbers::least(n, plan.len() - before), before);
-    plans::write(desc, starts, sizes, entries, plan, id);
+    let kept = n.min(plan.len() - before);
+    plan.copy_within(..kept, before);
+    plans::write(desc, tables, plan, id);
     n
 }
 
@@ -78,66 +63,61 @@ pub fn write(
 fn no_data(entry: u64) -> bool
     ensures { result ≡ no_data entry }
 {
-    if entry / 16777216 % 256 != 1 {
-        return false;
-    }
-    entry % 65536 == 0
+    entry / 16777216 % 256 == 1 && entry % 65536 == 0
 }
 
 // `endless` of the row at p, group by group.
 #[cycle(no_data_rows)]
-fn endless_row(desc: &[u8], starts: &[u16; 256], entries: &[u64; 256], p: usize) -> bool
-    requires { TiedSome desc.now starts.now entries.now × RowAt desc.now starts.now p (row_list desc.now p) }
+fn endless_row(desc: &[u8], tables: &Tables, p: usize) -> bool
+    requires { TiedSome desc.now tables.now.starts tables.now.entries × RowAt desc.now tables.now.starts p (row_list desc.now p) }
     ensures { result ≡ endless (row_list desc.now p) }
 {
     let head = desc[p + 1];
-    let mut g = p + 3;
-    let mut end = p + desc[p] as usize;
-    loop {
-        if g < end {
-            if !endless_group(desc, starts, entries, g, head) {
-                return false;
-            }
-        } else {
-            end = plans::cpt_end(desc, g);
-            if end == 0 {
-                return true;
-            }
+    // No `all`: in a cycle of calls a closure needs clauses and a measure of its own.
+    for group in Groups::of(desc, p) {
+        if !endless_group(desc, tables, group, head) {
+            return false;
         }
-        g += 3;
     }
+    true
 }
 
-// `endless` of the fields that the group at g adds. `head` is the construct type of the row's head. Repetitions do not matter, but for 0, which adds
+// `endless` of the fields that a group adds. `head` is the construct type of the row's head. Repetitions do not matter, but for 0, which adds
 // no field.
 #[cycle(no_data_rows)]
-fn endless_group(desc: &[u8], starts: &[u16; 256], entries: &[u64; 256], g: usize, head: u8) -> bool
-    requires { TiedSome desc.now starts.now entries.now × (g + 3 ≤ length desc.now)
-        × Refers (kind_of head) desc.now starts.now (length desc.now) (group_at desc.now g) }
-    ensures { result ≡ endless (group_list desc.now (kind_of head) g) }
+fn endless_group(desc: &[u8], tables: &Tables, group: Group, head: u8) -> bool
+    requires { TiedSome desc.now tables.now.starts tables.now.entries
+        × Refers (kind_of head) desc.now tables.now.starts (length desc.now) (group_of group) }
+    ensures { result ≡ endless (group_list desc.now (kind_of head) (group_of group)) }
 {
     if head == plans::GDA {
-        let id = numbers::wide(desc[g]);
-        let own = entries[id];
-        return no_data(fields::replaced(own, desc[g + 1], desc[g + 2]));
+        let own = tables.field(group.id).unwrap();
+        return no_data(fields::replaced(own, group.byte1, group.byte2));
     }
-    if desc[g + 2] == 0 {
-        return true;
-    }
-    endless(desc, starts, entries, g)
+    group.byte2 == 0 || endless_layout(desc, tables, group)
 }
 
-// Whether every item of the layout of the group at g is an X'01' that is not nullable and has F 0, so that a pass would take no data. Elements taken
-// do not matter: an SDA has an item at least.
+// `endless` of the layout of a group. Elements taken do not matter: an SDA has an item at least.
 #[cycle(no_data_rows)]
-pub fn endless(desc: &[u8], starts: &[u16; 256], entries: &[u64; 256], g: usize) -> bool
-    requires { TiedSome desc.now starts.now entries.now × PassAt desc.now g }
+fn endless_layout(desc: &[u8], tables: &Tables, group: Group) -> bool
+    requires { TiedSome desc.now tables.now.starts tables.now.entries × RefersRow desc.now (group_of group) }
+    ensures { result ≡ endless (layout_list desc.now (group_of group)) }
+{
+    match tables.field(group.id) {
+        Some(entry) => no_data(entry),
+        None => endless_row(desc, tables, tables.start(group.id)),
+    }
+}
+
+// Whether every item of the layout of the group at g is an X'01' that is not nullable and has F 0, so that a pass would take no data.
+pub fn endless(desc: &[u8], tables: &Tables, g: usize) -> bool
+    requires { TiedSome desc.now tables.now.starts tables.now.entries × PassAt desc.now g }
     ensures { result ≡ endless (pass_list desc.now g) }
 {
-    let id = numbers::wide(desc[g]);
-    let entry = entries[id];
-    if entry == 0 {
-        return endless_row(desc, starts, entries, starts[id] as usize);
-    }
-    no_data(entry)
+    let group = Group {
+        id: desc[g],
+        byte1: desc[g + 1],
+        byte2: desc[g + 2],
+    };
+    endless_layout(desc, tables, group)
 }

@@ -11,7 +11,7 @@ use lib.Dec.{eqb}
 use lib.ListN.{length, get_or, set, drop}
 use lib.Seq.{get_or-take, get_or-drop}
 use borrow.Author.Tests.{ltb-true, eqb-false}
-use mir.Syntax.{w32, w64}
+use mir.Syntax.{w16}
 use mir.Val.{Fits}
 use Rattle.fdoca.specs.Basics.{elem, product}
 use Rattle.fdoca.specs.FieldType.{FieldType, type_of, rule_of}
@@ -20,6 +20,7 @@ use Rattle.fdoca.specs.Check.{good_length_sda, good_type, good_sda}
 use Rattle.fdoca.proofs.Tests.{and_left, and_right}
 use Rattle.fdoca.specs.Unfolding.{field_of}
 use Rattle.fdoca.proofs.Fields.{GoodField, mode_known, bias_known, good_sda_lem}
+use Rattle.field_types.specs.Layouts.{number_of}
 use Rattle.field_types.specs.Rows.{rule_for}
 use Rattle.field_types.specs.declared.Shape.{Shape}
 use Rattle.field_types.specs.Parameters.{size_number, shape_of}
@@ -58,9 +59,6 @@ module _ (t : List ℕ) (h : good_sda t ≡ true) where
 
 -- the product of the lower extents
 module _ (t : List ℕ) (h : good_length_sda t ≡ true) where
-  pub lower_none : length t ≡ 12 → 0 ≡ lower_of (extents_of t)
-  lower_none e = rw (extents_end t 12 (omega arith))
-
   pub lower_some : (n : ℕ) → (length t ≡ 12 → ⊥) → n ≡ extent_or_1 t 14 * extent_or_1 t 16 → n ≡ lower_of (extents_of t)
   lower_some n k e = go (four_lengths t h)
     where
@@ -79,20 +77,14 @@ lower_most (suc x ∷ xs) h =
     let m : 1 * product xs ≤ suc x * product xs = mul-le-mul_right (product xs) (omega arith) in
     omega arith
 
--- a size of at most 4,096 items fits
+-- the lower product of at most 4,096 items fits
 module _ (t : List ℕ) (count lower : ℕ) (g : good_sda t ≡ true) (e : count ≡ product (extents_of t)) (small : count ≤ 4096)
     (l : lower ≡ lower_of (extents_of t)) where
   least : lower ≤ 4096
   least = omega (arith, lower_most (extents_of t) (good_positive t g))
 
-  pub product_fits : Fits w64 (65536 * lower)
-  product_fits = let h : lower ≤ 4096 = least in record { fits = omega arith }
-
-  pub sum_fits : Fits w64 (count + 65536 * lower)
-  sum_fits = let h : lower ≤ 4096 = least in record { fits = omega arith }
-
-  pub size_fits : Fits w32 (count + 65536 * lower)
-  size_fits = let h : lower ≤ 4096 = least in record { fits = omega arith }
+  pub lower_fits : Fits w16 lower
+  lower_fits = let h : lower ≤ 4096 = least in record { fits = omega arith }
 
 -- the mode of a good SDA is its byte 9, and its bias indicator the byte 7; both are 0 or 1
 module _ (t : List ℕ) (long : 12 ≤ length t) (good : good_sda t ≡ true) where
@@ -134,10 +126,10 @@ module _ (t : List ℕ) (x : Shape) (good : good_sda t ≡ true) (ex : x ≡ sha
   size_below = let (T, q) = good_type_lem t good in rw (shape_size T q) (size_bounded T q).number_small
 
   -- the plan's entry, from its parts
-  pub entry_way : (m b c i r : ℕ) → 12 ≤ length t → m ≡ get_or t 9 0 → b ≡ get_or t 7 0 → c ≡ get_or t 3 0 → c < 256 → i ≡ get_or t 2 0 → i < 256
-      → r ≡ entry_by (i + 256 * (c + 256 * (m + 128 * b))) x.layout x.size → EntryOf t r
+  pub entry_way : (m b c i layout r : ℕ) → 12 ≤ length t → m ≡ get_or t 9 0 → b ≡ get_or t 7 0 → c ≡ get_or t 3 0 → c < 256 → i ≡ get_or t 2 0 → i < 256
+      → layout ≡ number_of x.layout → r ≡ entry_by (i + 256 * (c + 256 * (m + 128 * b))) layout x.size → EntryOf t r
   unfolding shape_of
-  entry_way m b c i r long em eb ec cf ei ifs er = record { same = λ T q. same T q; proper = λ T q z. fits T q z }
+  entry_way m b c i layout r long em eb ec cf ei ifs el er = record { same = λ T q. same T q; proper = λ T q z. fits T q z }
     where
       mode : m ≡ mode_of (parameters_of t)
       mode = em ∙ sym (mode_read t long good)
@@ -147,15 +139,16 @@ module _ (t : List ℕ) (x : Shape) (good : good_sda t ≡ true) (ex : x ≡ sha
 
       same : (T : FieldType) → type_of (code_of t) ≡ some T → r ≡ entry_of (field_of T t)
       same T q =
-          er ∙ entry_made (field_of T t) (i + 256 * (c + 256 * (m + 128 * b))) x.layout x.size q (size_bounded T q).in_two
-          (rw (← mode, ← bias, ← ec, ← ei)) (ap (λ y. y.layout) ex) (shape_size T q)
+          er ∙ entry_made (field_of T t) (i + 256 * (c + 256 * (m + 128 * b))) layout x.size q (size_bounded T q).in_two
+          (rw (← mode, ← bias, ← ec, ← ei)) (el ∙ ap (λ y. number_of y.layout) ex) (shape_size T q)
 
       fits : (T : FieldType) → type_of (code_of t) ≡ some T → (id_of t ≡ 0 → ⊥) → Proper (field_of T t)
       fits T q h =
           let g = field_good t long good T q in
           made_proper (field_of T t) (omega arith) (omega (arith, h)) (omega arith) (omega (arith, mode_known g)) (omega (arith, bias_known g)) g.allowed
 
-pub put_way : (t s z e : List ℕ) (p i count lower entry : ℕ) → i ≡ get_or t 2 0 → i < 256 → lower ≡ lower_of (extents_of t) → count ≡ product (extents_of t)
-    → EntryOf t entry → PutSDA t p s z e (set s i p) (set z i (count + 65536 * lower)) (set e i entry)
-put_way t s z e p i count lower entry ei l el ec x =
-    record { entry = entry; is_entry = x; id_fits = rw ei at l; positions = rw ei; sizes = rw (ei, el, ec); entries = rw ei }
+pub put_way : (t s z e s' z' e' : List ℕ) (p count lower entry : ℕ) → get_or t 2 0 < 256 → lower ≡ lower_of (extents_of t) → count ≡ product (extents_of t)
+    → EntryOf t entry → s' ≡ set s (get_or t 2 0) p → z' ≡ set z (get_or t 2 0) (count + 65536 * lower) → e' ≡ set e (get_or t 2 0) entry
+    → PutSDA t p s z e s' z' e'
+put_way t s z e s' z' e' p count lower entry l el ec x es ez ee =
+    record { entry = entry; is_entry = x; id_fits = l; positions = es; sizes = rw (← el, ← ec) ez; entries = ee }

@@ -1,3 +1,3 @@
-pub mod Outcomes
+pub mod Described
 pub mod Sda
 pub mod Entries

@@ -1,8 +1,7 @@
 -- An SDA's bytes: its LENGTH, its extents and their product, and what makes its parameters good.
 -- Assumes nothing.
 use Rattle.std.specs.Prelude.{if◌then◌else◌}
-use mathlib.Core.Path.{◌≡◌, refl, sym, ap, ◌∙◌}
-use mathlib.Core.Logic.{◌≢◌}
+use mathlib.Core.Path.{◌≡◌, refl, sym, ap, subst, ◌∙◌}
 use Prim.Native.Nat.{ℕ, zero, suc, ◌+◌, ◌*◌, ◌≤◌, ◌<◌}
 use native.Mathlib.Omega.{arith}
 use native.Mathlib.Nat.{zero-mul, mul-zero, mul-one, mul-pos}
@@ -13,19 +12,18 @@ use lib.Dec.{ltb, eqb}
 use lib.ListN.{length, get_or, drop, length-drop, drop_of_length-le}
 use lib.Seq.{drop-cons, length-take-le}
 use borrow.Author.Tests.{lt-ltb, le-ltb, eq-eqb, ne_eqb, eqb-true}
-use mir.Syntax.{w64}
-use mir.Val.{Fits}
-use Rattle.fdoca.specs.Basics.{elem, product, refuse}
+use Rattle.std.specs.Prelude.{Option, None, Some}
+use Rattle.fdoca.specs.declared.Reason.TheVariants.{BadLength, BadParameter, NameTaken, TooManyItems}
+use Rattle.fdoca.specs.Basics.{elem, product}
 use Rattle.fdoca.specs.Triplet.{pairs, extents_of, id_of, code_of, parameters_of}
 use Rattle.fdoca.specs.FieldType.{type_of}
 use Rattle.fdoca.specs.Check.{Entry, is_described, good_length_sda, good_type, good_sda, check_sda}
 use Rattle.field_types.specs.declared.Shape.{Shape}
-use Rattle.field_types.specs.Parameters.{good_eight, no_shape, shape_if}
+use Rattle.field_types.specs.Parameters.{good_eight, shape_if}
 use Rattle.field_types.proofs.Allowed.{good_eight_lem, shape_none, shape_some, shape_is}
-use Rattle.sdas.specs.declared.Judged.{Judged}
 use Rattle.sdas.specs.Tables.{Agrees}
-use Rattle.sdas.specs.Judged.{extent_or_1, described, JudgedSDA}
-use Rattle.sdas.proofs.Outcomes.{below, refused_outcome, found_outcome, is_described_lem, not_described}
+use Rattle.sdas.specs.Judged.{extent_or_1, RefusedSDA, AcceptedSDA}
+use Rattle.sdas.proofs.Described.{below, is_described_lem, not_described}
 
 -- LENGTH is one of four
 pub data FourLengths (n : ℕ) : Type 0 where
@@ -83,22 +81,10 @@ extents_product t h = go (four_lengths t h)
     go (three_left e) =
         rw (extents_next t 12 (omega arith), extents_next t 14 (omega arith), extents_next t 16 (omega arith), extents_end t 18 (omega arith)) (rw mul-one)
 
--- products of extents fit
+-- the product of all extents
 module _ (a b : ℕ) where
-  pub lower_fits : a < 65536 → b < 65536 → Fits w64 (a * b)
-  lower_fits h k = let m : a * b ≤ 65535 * 65535 = below a b 65535 65535 (omega arith) (omega arith) in record { fits = omega arith }
-
-  pub count_fits : a < 65536 → b < 4294967296 → Fits w64 (a * b)
-  count_fits h k = let m : a * b ≤ 65535 * 4294967295 = below a b 65535 4294967295 (omega arith) (omega arith) in record { fits = omega arith }
-
-  pub lower_below : a < 65536 → b < 65536 → a * b < 4294967296
-  lower_below h k = let m : a * b ≤ 65535 * 65535 = below a b 65535 65535 (omega arith) (omega arith) in omega arith
-
   pub count_below : a < 65536 → b < 4294967296 → a * b < 281474976710656
   count_below h k = let m : a * b ≤ 65535 * 4294967295 = below a b 65535 4294967295 (omega arith) (omega arith) in omega arith
-
-  pub lower_is : (x y : ℕ) → a ≡ x → b ≡ y → a * b ≡ x * y
-  lower_is x y e f = cc
 
   pub count_is : (t : List ℕ) → good_length_sda t ≡ true → a ≡ extent_or_1 t 12 → b ≡ extent_or_1 t 14 * extent_or_1 t 16 → a * b ≡ product (extents_of t)
   count_is t g e f = let q : a * b ≡ extent_or_1 t 12 * (extent_or_1 t 14 * extent_or_1 t 16) = cc in q ∙ sym (extents_product t g)
@@ -124,82 +110,52 @@ module _ (t : List ℕ) where
   pub bad_extents : (n : ℕ) → n ≡ product (extents_of t) → n ≡ 0 → good_sda t ≡ false
   bad_extents n c z = rw (no_zero (extents_of t), ← c, z) (and-false (not (eqb (id_of t) 0) && good_type (type_of (code_of t)) (parameters_of t)))
 
-  pub good_rest : (n : ℕ) (x : Shape) → good_length_sda t ≡ true → (get_or t 2 0 ≡ 0 → ⊥) → n ≡ product (extents_of t) → (n ≡ 0 → ⊥)
+  pub good_rest : (n : ℕ) (x : Option Shape) → good_length_sda t ≡ true → (get_or t 2 0 ≡ 0 → ⊥) → n ≡ product (extents_of t) → (n ≡ 0 → ⊥)
       → x ≡ shape_if (good_eight (get_or t 3 0) (parameters_of t)) (get_or t 3 0) (parameters_of t) → x ≡ shape_if (good_sda t) (code_of t) (parameters_of t)
   good_rest n x l i c z e =
       let g : good_eight (get_or t 3 0) (parameters_of t) ≡ good_type (type_of (code_of t)) (parameters_of t) = good_eight_lem (get_or t 3 0) (parameters_of t) (parameters_length t (at_least_12 t l)) in
       let p : not (elem 0 (extents_of t)) ≡ true = no_zero (extents_of t) ∙ rw (← c) (lt-ltb 0 n (omega (arith, z))) in
       e ∙ ap (λ b. shape_if b (code_of t) (parameters_of t)) (simp (ne_eqb (get_or t 2 0) 0 i, p, g, and-true))
 
--- a refusal has no shape
-pub refused_is : (n : ℕ) (x : Shape) (r : Judged) → x ≡ no_shape → r ≡ record { number = n; shape = x; count = 0 } → r ≡ record { number = n; shape = no_shape; count = 0 }
-refused_is n x r e h = h ∙ rw e
+-- the ways through judging an SDA, b being the bytes that are kept of t
+pub sda_bad_length : (t s : List ℕ) → good_length_sda t ≡ false → RefusedSDA t s BadLength
+unfolding check_sda
+sda_bad_length t s h = record { refuses = λ p z y es k. rw h }
 
--- the ways through judging an SDA
-module _ (t s : List ℕ) (r : Judged) where
-  refused_by_lem : (n : ℕ) → n ≢ 0 → r ≡ record { number = n; shape = no_shape; count = 0 }
-      → ((p : ℕ) (z y : List ℕ) (es : List (ℕ × Entry)) → Agrees s z y es → check_sda es p t ≡ refuse n p) → JudgedSDA t s r
-  refused_by_lem n h e f =
-      record {
-        result = λ p z y es a. f p z y es a ∙ rw e (refused_outcome n p (described (id_of t) (code_of t) (extents_of t) es) h);
-        count = λ q. absurd (not_0 q);
-        shape = λ q. absurd (not_0 q);
-        no_count = λ q. rw e;
-        without_shape = λ q. rw e;
-        length_good = λ q. absurd (not_0 q);
-        good = λ q. absurd (not_0 q);
-        small = rw e (omega arith);
-      }
-    where
-      not_0 : r.number ≡ 0 → ⊥
-      not_0 q = h (rw e at q)
-
-  pub sda_bad_length : (a : Bool) → r ≡ record { number = 5; shape = no_shape; count = 0 } → a ≡ good_length_sda t → a ≡ false → JudgedSDA t s r
+module _ (t s b : List ℕ) (e : b ≡ t) (h : good_length_sda b ≡ true) where
+  pub sda_bad : None ≡ shape_if (good_sda b) (code_of b) (parameters_of b) → RefusedSDA t s BadParameter
   unfolding check_sda
-  sda_bad_length a e h f = refused_by_lem 5 (λ q. omega arith) e (λ p z y es k. rw (← h, f))
+  sda_bad g = subst (λ t. RefusedSDA t s BadParameter) e (record { refuses = λ p z y es k. rw (h, shape_none (code_of b) (parameters_of b) (good_sda b) g) })
 
-  module _ (a : Bool) (x : Shape) (h : a ≡ good_length_sda t) (f : a ≡ true) (g : x ≡ shape_if (good_sda t) (code_of t) (parameters_of t)) where
-    pub sda_bad_lem : r ≡ record { number = 6; shape = no_shape; count = 0 } → x.layout ≡ 255 → JudgedSDA t s r
+  module _ (x : Shape) (g : Some x ≡ shape_if (good_sda b) (code_of b) (parameters_of b)) (i : ℕ) (ei : i ≡ id_of b) (l : i < 256) where
+    good : good_sda b ≡ true
+    good = shape_some (code_of b) (parameters_of b) (good_sda b) x g
+
+    pub sda_taken : (get_or s i 0 ≡ 65535 → ⊥) → RefusedSDA t s NameTaken
     unfolding check_sda
-    sda_bad_lem e n = refused_by_lem 6 (λ q. omega arith) e (λ p z y es k. rw (← h, f, shape_none (code_of t) (parameters_of t) x (good_sda t) g n))
+    sda_taken u =
+        subst (λ t. RefusedSDA t s NameTaken) e
+        (record { refuses = λ p z y es w. rw (h, good, is_described_lem s z y es (id_of b) (rw ei at l) (rw ei at u) w) })
 
-    module _ (i : ℕ) (n : x.layout ≡ 255 → ⊥) (j : i ≡ get_or t 2 0) (l : i < 256) where
-      good : good_sda t ≡ true
-      good = shape_some (code_of t) (parameters_of t) x (good_sda t) g n
+    module _ (count : ℕ) (u : get_or s i 0 ≡ 65535) (m : count ≡ product (extents_of b)) where
+      new : (z y : List ℕ) (es : List (ℕ × Entry)) → Agrees s z y es → is_described (id_of b) es ≡ false
+      new z y es w = not_described s z y es (id_of b) (rw ei at l) (rw ei at u) w
 
-      pub sda_taken : r ≡ record { number = 7; shape = no_shape; count = 0 } → (get_or s i 0 ≡ 65535 → ⊥) → JudgedSDA t s r
+      pub sda_many : (most : ℕ) → 4096 ≤ most → most < count → RefusedSDA t s TooManyItems
       unfolding check_sda
-      sda_taken e u =
-          refused_by_lem 7 (λ q. omega arith) e
-          (λ p z y es w.
-          let d : is_described (id_of t) es ≡ true = is_described_lem s z y es (id_of t) (rw j at l) (rw j at u) w in
-          rw (← h, f, good, d))
+      sda_many most o k =
+          subst (λ t. RefusedSDA t s TooManyItems) e
+          (record { refuses = λ p z y es w. rw (h, good, new z y es w, ← m, lt-ltb 4096 count (omega arith)) })
 
-      module _ (count : ℕ) (u : get_or s i 0 ≡ 65535) (m : count ≡ product (extents_of t)) where
-        new : (z y : List ℕ) (es : List (ℕ × Entry)) → Agrees s z y es → is_described (id_of t) es ≡ false
-        new z y es w = not_described s z y es (id_of t) (rw j at l) (rw j at u) w
-
-        pub sda_many : (most : ℕ) → r ≡ record { number = 10; shape = no_shape; count = 0 } → 4096 ≤ most → most < count → JudgedSDA t s r
-        unfolding check_sda
-        sda_many most e o k =
-            refused_by_lem 10 (λ q. omega arith) e (λ p z y es w. rw (← h, f, good, new z y es w, ← m, lt-ltb 4096 count (omega arith)))
-
-        pub sda_fine : r ≡ record { number = 0; shape = x; count = count } → count ≤ 4096 → JudgedSDA t s r
-        unfolding check_sda
-        sda_fine e k =
-            record {
-              result = λ p z y es w.
-                  rw (← h, f, good, new z y es w, ← m, le-ltb 4096 count k, e) (found_outcome 0 p (described (id_of t) (code_of t) (extents_of t) es) refl);
-              count = λ q. rw e m;
-              shape = λ q. rw e (shape_is (code_of t) (parameters_of t) x (good_sda t) g good);
-              no_count = λ q. absurd (q (rw e));
-              without_shape = λ q. absurd (q (rw e));
-              length_good = λ q. sym h ∙ f;
-              good = λ q. good;
-              small = rw e k;
-            }
-
--- an SDA of good length has its first 12 bytes
-module _ (t : List ℕ) (h : good_length_sda t ≡ true) where
-  pub has : (k : ℕ) → k < 12 → k < length t
-  has k l = omega (arith, at_least_12 t h)
+      pub sda_fine : count ≤ 4096 → AcceptedSDA t s (record { shape = x; count = count })
+      unfolding check_sda
+      sda_fine k =
+          subst (λ t. AcceptedSDA t s (record { shape = x; count = count })) e
+          (record {
+            accepts = λ p z y es w. rw (h, good, new z y es w, ← m, le-ltb 4096 count k);
+            count = m;
+            shape = shape_is (code_of b) (parameters_of b) (good_sda b) x g;
+            length_good = h;
+            good = good;
+            small = k;
+          })

@@ -1,14 +1,9 @@
--- How the check's code stands to document 01's definitions: the numbers that are kept of an id, and a refusal told by its number alone.
-use Rattle.std.specs.Prelude.{ℕ, ◌/◌, ◌%◌, ◌<◌, ◌≡◌, ◌≢◌, List, [], ◌∷◌, eqb, get_or, if◌then◌else◌}
+-- How the check's code stands to document 01's definitions: the numbers that are kept of an id.
+use Rattle.std.specs.Prelude.{ℕ, ◌/◌, ◌%◌, ◌<◌, ◌≡◌, ◌≢◌, List, [], ◌∷◌, get_or}
 use Rattle.std.proofs.Math.Option.{Option, none, some}
-use Rattle.fdoca.specs.Basics.{product, lookup, Result, refuse, ok}
+use Rattle.fdoca.specs.Basics.{product, lookup}
 use Rattle.fdoca.specs.Check.{Entry, array, row, count_of}
 use Rattle.plans.specs.Tied.{lower_of}
-
--- A refusal at the triplet's place p, or what was found.
-module _ {A : Type 0} where
-  unfoldable pub outcome : (number p : ℕ) → A → Result A
-  outcome number p a = if eqb number 0 then ok a else refuse number p
 
 -- The product by which elements taken is multiplied, 0 where it can't be.
 abbrev pub lower_of_entry : Entry → ℕ

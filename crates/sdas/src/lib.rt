@@ -2,165 +2,140 @@
 
 #![tactic(auto)]
 
-ghost use Rattle.std.specs.Prelude.{◌≡◌, ◌*◌, ◌≤◌, ◌<◌, true};
-ghost use Rattle.fdoca.specs.Triplet.{code_of, parameters_of, extents_of};
+ghost use Rattle.std.specs.Prelude.{◌≡◌, ◌*◌, ◌≤◌, ◌<◌, true, false, MatchOption};
+ghost use Rattle.fdoca.specs.Triplet.{id_of, code_of, parameters_of, extents_of};
 ghost use Rattle.fdoca.specs.Basics.{product};
 ghost use Rattle.fdoca.specs.Check.{good_length_sda, good_sda};
-ghost use Rattle.field_types.specs.Parameters.{shape_of, no_shape, shape_if};
+ghost use Rattle.field_types.specs.Parameters.{shape_of, shape_if};
 ghost use Rattle.plans.specs.Tied.{lower_of};
 ghost use Rattle.sdas.specs.Judged.{extent_or_1, JudgedSDA};
 ghost use Rattle.sdas.specs.Kept.{EntryOf, PutSDA};
 
+use fdoca::Reason;
 use field_types::Shape;
-use numbers::wide64;
+use tables::Tables;
 
 // The largest count of items.
 pub const MOST: usize = 4096;
 
-// The position of an id that no triplet has described.
-pub const NOWHERE: u16 = 65535;
-
-// What judging an SDA gives: its shape and its item count, or the number of its refusal.
+// What judging an SDA finds: its shape, and how many items it stands for.
 #[derive(Clone, Copy)]
 pub struct Judged {
-    pub number: u8,
     pub shape: Shape,
     pub count: usize,
 }
 
-fn refused(number: u8) -> Judged
-    ensures { result ≡ record { number = number; shape = no_shape; count = 0 } }
-{
-    let shape = field_types::no_shape();
-    Judged {
-        number: number,
-        shape: shape,
-        count: 0,
+// The bytes of an SDA, a Simple Data Array, of a good LENGTH: 12 plus zero to three extents.
+#[derive(Clone, Copy)]
+struct DataArray<'a> {
+    bytes: &'a [u8],
+    ghost good_length: { good_length_sda bytes.now ≡ true },
+}
+
+impl<'a> DataArray<'a> {
+    // The bytes of an SDA, if their LENGTH is good.
+    fn new(bytes: &'a [u8]) -> Option<DataArray<'a>>
+        ensures { MatchOption result (good_length_sda bytes.now ≡ false) (λ sda. sda.bytes.now ≡ bytes.now) }
+    {
+        if !matches!(bytes.len(), 12 | 14 | 16 | 18) {
+            return None;
+        }
+        Some(DataArray { bytes })
+    }
+
+    fn id(&self) -> u8
+        ensures { result ≡ id_of self.now.bytes.now }
+    {
+        self.bytes[2]
+    }
+
+    // The extent at a place, or 1 where LENGTH leaves it out.
+    fn extent(&self, at: usize) -> usize
+        requires { at ≤ 16 }
+        ensures { (result ≡ extent_or_1 self.now.bytes.now at) × (result < 65536) }
+    {
+        if self.bytes.len() < at + 2 {
+            return 1;
+        }
+        numbers::pair(self.bytes[at], self.bytes[at + 1])
+    }
+
+    // The product of the lower extents.
+    fn lower_product(&self) -> usize
+        ensures { (result ≡ extent_or_1 self.now.bytes.now 14 * extent_or_1 self.now.bytes.now 16) × (result < 4294967296) }
+    {
+        self.extent(14) * self.extent(16)
+    }
+
+    // How many items it stands for: the product of its extents.
+    fn item_count(&self) -> usize
+        ensures { (result ≡ product (extents_of self.now.bytes.now)) × (result < 281474976710656) }
+    {
+        self.extent(12) * self.lower_product()
+    }
+
+    // The product by which elements taken is multiplied: 0 without extents.
+    fn lower(&self) -> usize
+        ensures { result ≡ lower_of (extents_of self.now.bytes.now) }
+    {
+        if self.bytes.len() == 12 {
+            0
+        } else {
+            self.lower_product()
+        }
+    }
+
+    // Its shape, if id, type, parameters and extents are good.
+    fn shape(&self) -> Option<Shape>
+        ensures { result ≡ shape_if (good_sda self.now.bytes.now) (code_of self.now.bytes.now) (parameters_of self.now.bytes.now) }
+    {
+        if self.id() == 0 || self.item_count() == 0 {
+            return None;
+        }
+        field_types::shape_of(self.bytes[3], &self.bytes[4..12])
+    }
+
+    // The plan's entry for its field.
+    fn entry(&self, shape: Shape) -> u64
+        requires good { good_sda self.now.bytes.now ≡ true }
+        requires shape { shape ≡ shape_of (code_of self.now.bytes.now) (parameters_of self.now.bytes.now) }
+        ensures { EntryOf self.now.bytes.now result }
+    {
+        let bytes = self.bytes;
+        let parameters = u64::from(bytes[9]) + 128 * u64::from(bytes[7]);
+        let own = u64::from(self.id()) + 256 * (u64::from(bytes[3]) + 256 * parameters);
+        fields::entry_of(own, shape.layout.number(), shape.size as u64)
     }
 }
 
-// LENGTH of an SDA: 12 plus zero to three extents.
-fn sda_length(t: &[u8]) -> bool
-    ensures { result ≡ good_length_sda t.now }
+// An SDA's shape and item count, or the first reason to refuse it.
+pub fn judge_sda(t: &[u8], tables: &Tables) -> Result<Judged, Reason>
+    ensures { JudgedSDA t.now tables.now.starts result }
 {
-    let n = t.len();
-    if n == 12 {
-        return true;
+    let sda = DataArray::new(t).ok_or(Reason::BadLength)?;
+    let shape = sda.shape().ok_or(Reason::BadParameter)?;
+    if tables.is_described(sda.id()) {
+        return Err(Reason::NameTaken);
     }
-    if n == 14 {
-        return true;
+    let count = sda.item_count();
+    if MOST < count {
+        return Err(Reason::TooManyItems);
     }
-    if n == 16 {
-        return true;
-    }
-    if n == 18 {
-        return true;
-    }
-    false
-}
-
-// The extent at a place of an SDA, or 1 where LENGTH leaves it out.
-fn extent(t: &[u8], at: usize) -> usize
-    requires { at ≤ 16 }
-    ensures { (result ≡ extent_or_1 t.now at) × (result < 65536) }
-{
-    if t.len() < at + 2 {
-        return 1;
-    }
-    numbers::pair(t[at], t[at + 1])
-}
-
-// The product of an SDA's lower extents.
-fn lower_product(t: &[u8]) -> usize
-    ensures { (result ≡ extent_or_1 t.now 14 * extent_or_1 t.now 16) × (result < 4294967296) }
-{
-    extent(t, 14) * extent(t, 16)
-}
-
-// How many items an SDA stands for: the product of its extents.
-fn item_count(t: &[u8]) -> usize
-    requires { good_length_sda t.now ≡ true }
-    ensures { (result ≡ product (extents_of t.now)) × (result < 281474976710656) }
-{
-    extent(t, 12) * lower_product(t)
-}
-
-// The shape of an SDA whose id, type, parameters and extents are good, else `no_shape`.
-fn sda_shape(t: &[u8]) -> Shape
-    requires { good_length_sda t.now ≡ true }
-    ensures { result ≡ shape_if (good_sda t.now) (code_of t.now) (parameters_of t.now) }
-{
-    if t[2] == 0 {
-        return field_types::no_shape();
-    }
-    if item_count(t) == 0 {
-        return field_types::no_shape();
-    }
-    field_types::shape_of(t[3], &t[4..12])
-}
-
-// An SDA's shape and item count, or the number of its refusal.
-pub fn judge_sda(t: &[u8], starts: &[u16; 256]) -> Judged
-    ensures { JudgedSDA t.now starts.now result }
-{
-    if !sda_length(t) {
-        return refused(5);
-    }
-    let shape = sda_shape(t);
-    if shape.layout == field_types::NO_LAYOUT {
-        return refused(6);
-    }
-    let id = numbers::wide(t[2]);
-    if starts[id] != NOWHERE {
-        return refused(7);
-    }
-    let n = item_count(t);
-    if MOST < n {
-        return refused(10);
-    }
-    Judged {
-        number: 0,
-        shape: shape,
-        count: n,
-    }
-}
-
-// The plan's entry for an SDA's field.
-fn plan_entry(t: &[u8], shape: Shape) -> u64
-    requires { (good_length_sda t.now ≡ true) × (good_sda t.now ≡ true) × (shape ≡ shape_of (code_of t.now) (parameters_of t.now)) }
-    ensures { EntryOf t.now result }
-{
-    let parameters = wide64(t[9]) + 128 * wide64(t[7]);
-    let own = wide64(t[2]) + 256 * (wide64(t[3]) + 256 * parameters);
-    fields::entry_of(own, shape.layout, shape.size as u64)
-}
-
-// The product by which elements taken is multiplied: 0 without extents.
-fn lower_of(t: &[u8]) -> usize
-    requires { good_length_sda t.now ≡ true }
-    ensures { result ≡ lower_of (extents_of t.now) }
-{
-    if t.len() == 12 {
-        return 0;
-    }
-    lower_product(t)
+    Ok(Judged { shape, count })
 }
 
 // Enters an SDA at p into the tables.
-pub fn put_sda(
-    t: &[u8],
-    p: usize,
-    judged: Judged,
-    starts: &mut [u16; 256],
-    sizes: &mut [u32; 256],
-    entries: &mut [u64; 256],
-)
-    requires { (good_length_sda t.now ≡ true) × (good_sda t.now ≡ true) × (p < 4096) × (judged.count ≡ product (extents_of t.now)) × (judged.count ≤ 4096) × (judged.shape ≡ shape_of (code_of t.now) (parameters_of t.now)) }
-    ensures { PutSDA t.now p starts.old sizes.old entries.old starts.new sizes.new entries.new }
+pub fn put_sda(t: &[u8], p: usize, judged: Judged, tables: &mut Tables)
+    requires good_length { good_length_sda t.now ≡ true }
+    requires good { good_sda t.now ≡ true }
+    requires place { p < 4096 }
+    requires count { judged.count ≡ product (extents_of t.now) }
+    requires small { judged.count ≤ 4096 }
+    requires shape { judged.shape ≡ shape_of (code_of t.now) (parameters_of t.now) }
+    ensures { PutSDA t.now p tables.old.starts tables.old.sizes tables.old.entries tables.new.starts tables.new.sizes tables.new.entries }
 {
-    let id = numbers::wide(t[2]);
-    let lower = lower_of(t);
-    starts[id] = p as u16;
-    sizes[id] = (judged.count + 65536 * lower) as u32;
-    entries[id] = plan_entry(t, judged.shape);
+    let sda = DataArray { bytes: t };
+    let entry = sda.entry(judged.shape);
+    let lower = sda.lower();
+    tables.describe(sda.id(), p as u16, judged.count as u16, lower as u16, entry);
 }

@@ -1,10 +1,11 @@
--- The code's struct as what it stands for in the papers' definitions.
-use Rattle.std.specs.Prelude.{false}
+-- The definition's answer that what was measured stands for. No two results have the same, since each reason has a number of its own.
+use Rattle.std.specs.Prelude.{Result, Ok, Err}
+use Rattle.fdoca.specs.declared.Reason.{Reason}
 use Rattle.fdoca.specs.Item.{refused, item}
 use Rattle.fdoca.specs.Item as defined
+use Rattle.fdoca.specs.Returned.{number_of}
 use Rattle.terminated.specs.declared.Measured.{Measured}
 
--- A refusal has its number, no null mark and zeros; a measured item has the number 0.
-unfoldable pub answer : defined.Measured → Measured
-answer (refused n) = record { number = n; null = false; lead = 0; value = 0; spare = 0 }
-answer (item z p v r) = record { number = 0; null = z; lead = p; value = v; spare = r }
+abbrev pub measured : Result Measured Reason → defined.Measured
+measured (Err r) = refused (number_of r)
+measured (Ok m) = item m.null m.lead m.value m.spare

@@ -1,4 +1,2 @@
-pub mod Sums
 pub mod Groups
-pub mod Judging
-pub mod Isd
+pub mod Sums

@@ -2,129 +2,93 @@
 
 #![tactic(auto)]
 
-ghost use Rattle.std.specs.Prelude.{◌≡◌, ◌≤◌, false, [], ◌∷◌, length, eqb};
-ghost use Rattle.fdoca.specs.Basics.{is_some, elem, big, refuse, ok};
-ghost use Rattle.fdoca.specs.Float.{float_of};
-ghost use Rattle.fdoca.specs.Calls.{ordered, value_answer};
-ghost use Rattle.floats.specs.Reals.{real};
-ghost use Rattle.values.specs.Codes.{reading_for, hexadecimal_for, binary_for, format_for, ReadAs};
+ghost use Rattle.std.specs.Prelude.{◌≡◌, ◌≤◌, length};
+ghost use Rattle.fdoca.specs.Basics.{the};
+ghost use Rattle.fdoca.specs.Calls.{read_by, reading_by};
+ghost use Rattle.fdoca.specs.Returned.{returned};
+ghost use Rattle.field_types.specs.Types.{defined_type};
+ghost use Rattle.values.specs.Reading.{defined_reading, maybe_defined, by_length, binary_by};
 
-use fdoca::{Value, Valued};
-use floats::Real;
+use fdoca::{Reason, Refusal, Value};
+use field_types::FieldType;
+use floats::Format;
 
-// The plain type codes of what is read: whole numbers, X'24' byte-reversed; hexadecimal floats; binary floats, X'47' byte-reversed.
-const INTEGER: u8 = 0x23;
+// How the bytes of a value are read, which may be reversed: as a whole number, or as a float of a format.
+#[derive(Clone, Copy, Debug, PartialEq, Eq)]
+pub enum Reading {
+    Whole { reversed: bool },
+    Float { reversed: bool, format: Format },
+}
 
-const REVERSED_INTEGER: u8 = 0x24;
-
-const HEXADECIMAL: u8 = 0x40;
-
-const REVERSED_FLOAT: u8 = 0x47;
-
-const FLOAT: u8 = 0x48;
-
-// A refusal gives the whole number 0.
-pub fn refused(number: u32, place: u32) -> Valued
-    ensures { result ≡ value_answer (refuse number place) }
+// A float of 4 or of 8 bytes.
+fn of_length(size: u64, reversed: bool, short: Format, long: Format) -> Option<Reading>
+    ensures { maybe_defined result ≡ by_length size reversed short long }
 {
-    Valued {
-        number: number,
-        place: place,
-        value: Value::Whole(0),
+    match size {
+        4 => Some(Reading::Float {
+            reversed,
+            format: short,
+        }),
+        8 => Some(Reading::Float {
+            reversed,
+            format: long,
+        }),
+        _ => None,
     }
 }
 
-pub fn valued(value: Value) -> Valued
-    ensures { result ≡ value_answer (ok value) }
+// A binary float, which is read with the bias indicator 0.
+fn binary(size: u64, bias: u64, reversed: bool) -> Option<Reading>
+    ensures { maybe_defined result ≡ binary_by size bias reversed }
 {
-    Valued {
-        number: 0,
-        place: 0,
-        value: value,
-    }
-}
-
-fn four_or_eight(size: u64) -> bool
-    ensures { result ≡ elem size (4 ∷ 8 ∷ []) }
-{
-    if size == 4 {
-        return true;
-    }
-    size == 8
-}
-
-// Whether the value of a field is read, by its plain type code, its length and its bias indicator.
-pub fn is_read(plain: u8, size: u64, bias: u64) -> bool
-    ensures { result ≡ is_some (reading_for plain size bias) }
-{
-    if plain == INTEGER {
-        return true;
-    }
-    if plain == REVERSED_INTEGER {
-        return true;
-    }
-    if plain == HEXADECIMAL {
-        return four_or_eight(size);
-    }
     if bias != 0 {
-        return false;
+        return None;
     }
-    if plain == REVERSED_FLOAT {
-        return four_or_eight(size);
-    }
-    if plain == FLOAT {
-        return four_or_eight(size);
-    }
-    false
+    of_length(size, reversed, Format::ShortBinary, Format::LongBinary)
 }
 
-// The float of a hexadecimal number of 4 or 8 bytes.
-fn hexadecimal_of(s: &[u8]) -> Real
-    requires { length s.now ≤ 8 }
-    ensures { result ≡ real (float_of (hexadecimal_for (length s.now)) (big (ordered s.now false))) }
-{
-    let bits = numbers::unsigned(s, false);
-    if s.len() == 4 {
-        return floats::short_hexadecimal(bits);
+impl Reading {
+    // How the value of a field is read, if it is, by its type, its length and its bias indicator.
+    #[tactic(auto, unfolding(fdoca::specs::Calls::reading_by))]
+    pub fn of_type(field_type: FieldType, size: u64, bias: u64) -> Option<Reading>
+        ensures { maybe_defined result ≡ reading_by (defined_type field_type) size bias }
+    {
+        match field_type {
+            FieldType::Integer => Some(Reading::Whole { reversed: false }),
+            FieldType::ReversedInteger => Some(Reading::Whole { reversed: true }),
+            FieldType::HexFloat => {
+                of_length(
+                    size,
+                    false,
+                    Format::ShortHexadecimal,
+                    Format::LongHexadecimal,
+                )
+            }
+            FieldType::ReversedFloat => binary(size, bias, true),
+            FieldType::BinaryFloat => binary(size, bias, false),
+            FieldType::FixedBytes
+            | FieldType::VariableBytes
+            | FieldType::TerminatedBytes
+            | FieldType::ShortBytes
+            | FieldType::PackedDecimal => None,
+        }
     }
-    floats::long_hexadecimal(bits)
-}
 
-// The float of a binary number of 4 or 8 bytes.
-fn binary_of(s: &[u8], reversed: bool) -> Real
-    requires { length s.now ≤ 8 }
-    ensures { result ≡ real (float_of (binary_for (length s.now)) (big (ordered s.now reversed))) }
-{
-    let bits = numbers::unsigned(s, reversed);
-    if s.len() == 4 {
-        return floats::short_binary(bits);
+    // The value of the bytes; it is refused at the item's start where there is no exact float.
+    pub fn read(self, s: &[u8], start: u32) -> Result<Value, Refusal>
+        requires { length s.now ≤ 8 }
+        ensures { result ≡ returned (the (read_by (defined_reading self) s.now) 23 start) }
+    {
+        match self {
+            Reading::Whole { reversed } => Ok(Value::Whole(numbers::read(s, reversed))),
+            Reading::Float { reversed, format } => {
+                let bits = numbers::unsigned(s, reversed);
+                let float = format.float_of(bits).ok_or(Refusal {
+                    reason: Reason::NoExactFloat,
+                    place: start,
+                })?;
+                Ok(Value::Real(float))
+            }
+        }
     }
-    floats::long_binary(bits)
-}
-
-// The float of 4 or 8 bytes, by the plain type code.
-fn float_of(s: &[u8], plain: u8) -> Real
-    requires { length s.now ≤ 8 }
-    ensures { result ≡ real (float_of (format_for plain (length s.now)) (big (ordered s.now (eqb plain 0x47)))) }
-{
-    if plain == HEXADECIMAL {
-        return hexadecimal_of(s);
-    }
-    binary_of(s, plain == REVERSED_FLOAT)
-}
-
-// Reads the bytes of a value that is read, by its plain type code; 23 at the item's start where there is no exact float.
-pub fn read(s: &[u8], plain: u8, start: u32) -> Valued
-    requires { length s.now ≤ 8 }
-    ensures { ReadAs plain s.now start result }
-{
-    if plain <= REVERSED_INTEGER {
-        let whole = numbers::read(s, plain == REVERSED_INTEGER);
-        return valued(Value::Whole(whole));
-    }
-    let float = float_of(s, plain);
-    if !float.given {
-        return refused(23, start);
-    }
-    valued(Value::Real(float.value))
 }

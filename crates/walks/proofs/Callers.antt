@@ -1,23 +1,22 @@
 -- What a caller knows of the notes of a walk over a plan's fields, and of a found item.
 -- Assumes nothing.
-use Prim.Native.Nat.{ℕ, zero, suc, ◌+◌, ◌≤◌}
+use Prim.Native.Nat.{ℕ, zero, suc, ◌+◌, ◌/◌, ◌%◌, ◌≤◌}
 use mathlib.Core.Path.{◌≡◌, refl, sym, ap, ◌∙◌}
 use mathlib.Core.List.{List, [], ◌∷◌, map}
 use mathlib.Core.Option.{Option, none, some}
 use native.Mathlib.Omega.{arith}
 use lib.Dec.{ltb}
 use lib.ListN.{length, drop, get_elem?, length-map}
-use Rattle.fdoca.specs.Basics.{Result, refuse, ok, the}
+use Rattle.fdoca.specs.Basics.{Result, refuse, ok, ◌>>=◌, the}
 use Rattle.fdoca.specs.Item.{Field, measure}
 use Rattle.fdoca.specs.Walk.{Note, item_length, note_of, cut_from, walk}
-use Rattle.fdoca.specs.Calls.{state_of}
 use Rattle.fdoca.proofs.Results.{IfOk, none_owed, holds, bind_all, reject_all, itself, ok_of}
 use Rattle.fdoca.specs.Cover.{sum, positions, lengths}
 use Rattle.fdoca.proofs.Cover.{walk_covers}
 use Rattle.fields.specs.Plan.{Proper, EntryIs, Planned, empty, entry}
 use Rattle.walks.specs.declared.Found.{Found}
 use Rattle.walks.specs.Marks.{mark_of, marks_from, Noted, nothing, item}
-use Rattle.walks.specs.Finding.{found_of, state_found}
+use Rattle.walks.specs.Finding.{found_of}
 use Rattle.fields.proofs.Parts.{entry_code}
 
 planned_length : {es : List ℕ} {fs : List Field} → Planned es fs → length es ≡ length fs
@@ -85,23 +84,22 @@ sound_item s ns p t m k = go (get_elem? ns k) refl
         let w : Sound s n = record { inside = omega (arith, item_inside 0 ns k n p q); proper = item_proper m k n q } in
         holds w
 
-inside_of : (s : List ℕ) (x : Result Note) → IfOk (Sound s) x → (found_of x).start + (found_of x).lead + (found_of x).value + (found_of x).spare ≤ length s
-unfolding found_of
-inside_of s (refuse n p) h = omega arith
-inside_of s (ok n) (holds h) = omega (arith, h.inside)
-
-state_of_lem : (s : List ℕ) (x : Result Note) → IfOk (Sound s) x → state_found (found_of x) ≡ state_of x
-unfolding found_of
-state_of_lem s (refuse n p) h = refl
-state_of_lem s (ok n) (holds h) = rw (entry_code n.field h.proper)
-
-module _ (s : List ℕ) (x : Result Note) (w : IfOk (Sound s) x) (r : Found) (h : r ≡ found_of x) where
+-- what a found item tells
+module _ (s : List ℕ) (n : Note) (w : Sound s n) (r : Found) (h : r ≡ found_of n) where
   pub found_inside : r.start + r.lead + r.value + r.spare ≤ length s
-  found_inside = rw h (inside_of s x w)
+  found_inside = rw h (omega (arith, w.inside))
 
-  pub found_state : state_found r ≡ state_of x
-  found_state = rw h (state_of_lem s x w)
+  pub found_code : r.entry / 16777216 % 256 ≡ n.field.code
+  found_code = rw h (entry_code n.field w.proper)
 
-  pub found_entry : (n : Note) → x ≡ ok n → EntryIs n.field r.entry
-  unfolding found_of
-  found_entry n e = record { entry = rw (h, e); proper = (ok_of (rw e at w)).proper }
+  pub found_entry : EntryIs n.field r.entry
+  found_entry = record { entry = rw h; proper = w.proper }
+
+-- where the definition's answer, without its items, is a refusal, so is it with them
+pub refused_with_items : {A B : Type 0} (x : Result A) (f : A → B) (n p : ℕ) → refuse n p ≡ (x >>= λ a. ok (f a)) → x ≡ refuse n p
+refused_with_items (refuse m q) f n p e = let a : m ≡ n = cc in let b : q ≡ p = cc in rw (a, b)
+refused_with_items (ok a) f n p e = absurd (let z : ◌≡◌ {A = ℕ} 0 1 = cc in let o : ⊥ = omega arith in o)
+
+pub good_with_items : {A B : Type 0} (x : Result A) (f : A → B) (b : B) → ok b ≡ (x >>= λ a. ok (f a)) → (a : A) × (x ≡ ok a) × (b ≡ f a)
+good_with_items (refuse m q) f b e = absurd (let z : ◌≡◌ {A = ℕ} 0 1 = cc in let o : ⊥ = omega arith in o)
+good_with_items (ok a) f b e = (a, refl, cc)

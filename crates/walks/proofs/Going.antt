@@ -11,18 +11,17 @@ use Rattle.fdoca.specs.Basics.{Result, refuse, ok, ◌>>=◌}
 use Rattle.fdoca.specs.FieldType.{nullable}
 use Rattle.fdoca.specs.Item.{Field, refused, item, measure_item, measure}
 use Rattle.fdoca.specs.Walk.{Note, Cut, note_of, with, cut_from}
-use Rattle.field_types.specs.Rows.{layout_of}
+use Rattle.field_types.specs.Layouts.{layout_by}
+use Rattle.std.specs.Prelude.{Ok, Err, IfOk}
+use Rattle.std.specs.Prelude as code
+use Rattle.fdoca.specs.declared.Reason.{Reason}
 use Rattle.terminated.specs.declared.Measured.{Measured}
-use Rattle.terminated.specs.Answer.{answer}
-use Rattle.items.proofs.Inside.{Numbered, numbered_item, is_item, is_refused, inside_at}
+use Rattle.terminated.specs.Answer.{measured}
+use Rattle.items.proofs.Inside.{inside_at}
 use Rattle.fields.specs.Plan.{entry_of, Proper, Planned, empty, entry}
-use Rattle.walks.specs.Entry.{measure_entry}
+use Rattle.walks.specs.Entry.{measure_entry, length_of, Inside}
 use Rattle.walks.specs.Marks.{mark_of, marks_from}
 use Rattle.walks.proofs.Parts.{entry_measures}
-
--- an item's length
-abbrev pub long : Measured → ℕ
-long m = m.lead + m.value + m.spare
 
 -- what is noted of a field's item that was measured at p
 abbrev pub note_at : Field → (p : ℕ) → Measured → Note
@@ -76,7 +75,7 @@ unfolding cut_from note_of
 cut_refused p n f fs s e = rw e
 
 cut_item : (p : ℕ) (m : Measured) (f : Field) (fs : List Field) (s : List ℕ) → measure f s ≡ item m.null m.lead m.value m.spare
-    → cut_from p (f ∷ fs) s ≡ (cut_from (p + long m) fs (drop (long m) s) >>= λ c. ok (with (note_at f p m) c))
+    → cut_from p (f ∷ fs) s ≡ (cut_from (p + length_of m) fs (drop (length_of m) s) >>= λ c. ok (with (note_at f p m) c))
 unfolding cut_from note_of
 cut_item p m f fs s e = rw e
 
@@ -85,7 +84,7 @@ unfolding marks_from note_of
 marks_refused p n f fs s e = rw e
 
 marks_item : (p : ℕ) (m : Measured) (f : Field) (fs : List Field) (s : List ℕ) → measure f s ≡ item m.null m.lead m.value m.spare
-    → marks_from p (f ∷ fs) s ≡ mark_of (note_at f p m) ∷ marks_from (p + long m) fs (drop (long m) s)
+    → marks_from p (f ∷ fs) s ≡ mark_of (note_at f p m) ∷ marks_from (p + length_of m) fs (drop (length_of m) s)
 unfolding marks_from note_of
 marks_item p m f fs s e = rw e
 
@@ -93,46 +92,43 @@ with_behind : (ns : List Note) (n : Note) (r : Result Cut) → ((r >>= λ c. ok 
 with_behind ns n (refuse k q) = refl
 with_behind ns n (ok c) = rw (append_snoc ns n c.notes)
 
--- an item's answer tells it from a refusal
-pub entry_numbered : (e : ℕ) (s : List ℕ) → Numbered (measure_entry e s)
-unfolding measure_entry
-entry_numbered e s = numbered_item _ _ _ _ s
-
-module _ {o : ℕ} {fs : List Field} {s es : List ℕ} {e p : ℕ} {ns : List Note} (m : Measured) (g : Going o fs s (e ∷ es) p ns) (h : m ≡ answer (measure_entry e (drop p s))) where
+module _ {o : ℕ} {fs : List Field} {s es : List ℕ} {e p : ℕ} {ns : List Note} (g : Going o fs s (e ∷ es) p ns) where
   abbrev x : Next e es g.ahead
   x = next g.planned
 
-  refused_there : (m.number ≡ 0 → ⊥) → measure x.field (drop p s) ≡ refused m.number
-  refused_there z = sym (entry_is_measure x.field e (drop p s) x.entry_is x.proper) ∙ is_refused m (measure_entry e (drop p s)) h z
+  there : measure_entry e (drop p s) ≡ measure x.field (drop p s)
+  there = entry_is_measure x.field e (drop p s) x.entry_is x.proper
 
   -- an item refused stops the walk with its number, at its start, and its entry and those behind it are as before
-  pub stops : (m.number ≡ 0 → ⊥) → cut_from o fs (drop o s) ≡ refuse m.number p
-  stops z =
-      let c : cut_from p g.ahead (drop p s) ≡ refuse m.number p =
-      ap (λ l. cut_from p l (drop p s)) x.fields_are ∙ cut_refused p m.number x.field x.later (drop p s) (refused_there z) in
-      g.whole ∙ ap (λ r. r >>= λ c. ok (behind ns c)) c
+  module _ (n : ℕ) (h : refused n ≡ measure_entry e (drop p s)) where
+    refused_there : measure x.field (drop p s) ≡ refused n
+    refused_there = sym (h ∙ there)
 
-  pub stops_marking : (m.number ≡ 0 → ⊥) → marks_from o fs (drop o s) ≡ map mark_of ns ++ e ∷ es
-  stops_marking z =
-      let c : marks_from p g.ahead (drop p s) ≡ e ∷ es =
-      ap (λ l. marks_from p l (drop p s)) x.fields_are ∙ marks_refused p m.number x.field x.later (drop p s) (refused_there z)
-      ∙ sym (entries_are g.planned ∙ ap (map entry_of) x.fields_are) in
-      g.marked ∙ ap (λ l. map mark_of ns ++ l) c
+    pub stops : cut_from o fs (drop o s) ≡ refuse n p
+    stops =
+        let c : cut_from p g.ahead (drop p s) ≡ refuse n p = ap (λ l. cut_from p l (drop p s)) x.fields_are ∙ cut_refused p n x.field x.later (drop p s) refused_there in
+        g.whole ∙ ap (λ r. r >>= λ c. ok (behind ns c)) c
+
+    pub stops_marking : marks_from o fs (drop o s) ≡ map mark_of ns ++ e ∷ es
+    stops_marking =
+        let c : marks_from p g.ahead (drop p s) ≡ e ∷ es =
+        ap (λ l. marks_from p l (drop p s)) x.fields_are ∙ marks_refused p n x.field x.later (drop p s) refused_there
+        ∙ sym (entries_are g.planned ∙ ap (map entry_of) x.fields_are) in
+        g.marked ∙ ap (λ l. map mark_of ns ++ l) c
 
   -- an item measured is noted, and the walk goes on behind it
-  pub record Noting : Type 0 where
+  pub record Noting (m : Measured) : Type 0 where
     pub field : Field
     pub entry_is : e ≡ entry_of field
     pub proper : Proper field
-    pub going : Going o fs s es (p + long m) (ns ++ note_at field p m ∷ [])
+    pub going : Going o fs s es (p + length_of m) (ns ++ note_at field p m ∷ [])
 
-  pub goes_on : m.number ≡ 0 → Noting
-  goes_on z =
+  pub goes_on : (m : Measured) → item m.null m.lead m.value m.spare ≡ measure_entry e (drop p s) → Noting m
+  goes_on m h =
       let n : Note = note_at x.field p m in
-      let later : List ℕ = marks_from (p + long m) x.later (drop (p + long m) s) in
-      let r : measure x.field (drop p s) ≡ item m.null m.lead m.value m.spare =
-      sym (entry_is_measure x.field e (drop p s) x.entry_is x.proper) ∙ is_item m (measure_entry e (drop p s)) (entry_numbered e (drop p s)) h z in
-      let c : cut_from p g.ahead (drop p s) ≡ (cut_from (p + long m) x.later (drop (long m) (drop p s)) >>= λ c. ok (with (note_at x.field p m) c)) =
+      let later : List ℕ = marks_from (p + length_of m) x.later (drop (p + length_of m) s) in
+      let r : measure x.field (drop p s) ≡ item m.null m.lead m.value m.spare = sym (h ∙ there) in
+      let c : cut_from p g.ahead (drop p s) ≡ (cut_from (p + length_of m) x.later (drop (length_of m) (drop p s)) >>= λ c. ok (with (note_at x.field p m) c)) =
       ap (λ l. cut_from p l (drop p s)) x.fields_are ∙ cut_item p m x.field x.later (drop p s) r in
       record {
         field = x.field;
@@ -142,12 +138,12 @@ module _ {o : ℕ} {fs : List Field} {s es : List ℕ} {e p : ℕ} {ns : List No
           ahead = x.later;
           planned = x.planned;
           whole = g.whole ∙ ap (λ r. r >>= λ c. ok (behind ns c)) c
-              ∙ with_behind ns (note_at x.field p m) (cut_from (p + long m) x.later (drop (long m) (drop p s)))
-              ∙ ap (λ l. cut_from (p + long m) x.later l >>= λ c. ok (behind (ns ++ note_at x.field p m ∷ []) c)) (drop-drop (long m) p s);
+              ∙ with_behind ns (note_at x.field p m) (cut_from (p + length_of m) x.later (drop (length_of m) (drop p s)))
+              ∙ ap (λ l. cut_from (p + length_of m) x.later l >>= λ c. ok (behind (ns ++ note_at x.field p m ∷ []) c)) (drop-drop (length_of m) p s);
           marked = g.marked
               ∙ ap (λ l. map mark_of ns ++ l)
               (ap (λ l. marks_from p l (drop p s)) x.fields_are ∙ marks_item p m x.field x.later (drop p s) r
-              ∙ ap (λ l. mark_of n ∷ marks_from (p + long m) x.later l) (drop-drop (long m) p s))
+              ∙ ap (λ l. mark_of n ∷ marks_from (p + length_of m) x.later l) (drop-drop (length_of m) p s))
               ∙ sym (append_snoc (map mark_of ns) (mark_of n) later)
               ∙ ap (λ l. l ++ later) (sym (map-append mark_of ns (n ∷ [])));
         };
@@ -165,14 +161,23 @@ module _ {o : ℕ} {fs : List Field} {s : List ℕ} {p : ℕ} {ns : List Note} (
   all_marked =
       g.marked ∙ ap (λ l. map mark_of ns ++ marks_from p l (drop p s)) (none_left g.planned) ∙ append-nil (map mark_of ns)
 
--- the item's answer, from the part of the data that starts with it
-module _ (m : Measured) (e : ℕ) (s : List ℕ) (at : ℕ)
-    (h : m ≡ answer (measure_item (nullable (e / 16777216 % 256)) (layout_of (e / 1099511627776 % 4)) (e / 4294967296 % 128) (e % 65536) (take (length s - at) (drop at s)))) where
-  pub place_measured : m ≡ answer (measure_entry e (drop at s))
-  unfolding measure_entry
-  place_measured =
-      rw (part_to_end s at) at h
+-- the item of an entry, within the data
+pub lies_inside : (e : ℕ) (s : List ℕ) (at : ℕ) (m : Measured) → at ≤ length s → item m.null m.lead m.value m.spare ≡ measure_entry e (drop at s) → Inside s at m
+unfolding measure_entry
+lies_inside e s at m l h = inside_at m.null m.lead m.value m.spare _ _ _ _ s at l h
 
-  pub stays_inside : at ≤ length s → at + long m ≤ length s
+inside_of : (e : ℕ) (s : List ℕ) (at : ℕ) → at ≤ length s → (r : code.Result Measured Reason) → measured r ≡ measure_entry e (drop at s) → IfOk r (Inside s at)
+inside_of e s at k (Err x) h = tt
+inside_of e s at k (Ok m) h = lies_inside e s at m k h
+
+-- and from the part of the data that starts with it
+module _ (e : ℕ) (s : List ℕ) (at : ℕ) (r : code.Result Measured Reason)
+    (h : measured r ≡ measure_item (nullable (e / 16777216 % 256)) (layout_by (e / 1099511627776 % 4)) (e / 4294967296 % 128) (e % 65536) (take (length s - at) (drop at s))) where
+  pub place_measured : measured r ≡ measure_entry e (drop at s)
   unfolding measure_entry
-  stays_inside l = inside_at m _ _ _ _ s at l place_measured
+  place_measured = rw (part_to_end s at) at h
+
+  pub place_inside : at ≤ length s → IfOk r (Inside s at)
+  place_inside k = inside_of e s at k r place_measured
+
+pub ruleset place_ways = (place_measured, place_inside)

@@ -1,55 +1,42 @@
 -- Marking a plan: the entries of the items noted so far have their marks, the others are as before.
 -- Assumes nothing.
-use Prim.Native.Nat.{ℕ, suc, ◌+◌, ◌-◌, ◌*◌, ◌%◌, ◌<◌, ◌≤◌}
+use Prim.Native.Nat.{ℕ, suc, ◌+◌, ◌*◌, ◌%◌, ◌<◌, ◌≤◌}
 use mathlib.Core.Path.{◌≡◌, refl, sym, ap, ◌∙◌}
-use mathlib.Core.Logic.{◌≢◌}
 use mathlib.Core.List.{List, [], ◌∷◌, ◌++◌, map, map-append, append-nil}
 use native.Mathlib.Numerals.{add-one}
 use native.Mathlib.Omega.{arith}
 use lib.ListN.{length, get_or, set, drop, length-append, length-drop, length-map, drop_of_length-le}
 use borrow.Author.Tests.{lt-ltb, le-ltb}
 use lib.Seq.{drop-cons, append_snoc, set_at, get_or_at}
-use Rattle.fdoca.specs.Item.{Field, item}
+use Rattle.std.specs.Prelude.{Ok, Err}
+use Rattle.fdoca.specs.declared.Reason.{Reason}
+use Rattle.fdoca.specs.declared.Reason.TheVariants.{Surplus}
+use Rattle.fdoca.specs.declared.Refusal.{Refusal}
+use Rattle.fdoca.specs.Item.{Field, refused, item}
+use Rattle.fdoca.specs.Returned.{number_of}
 use Rattle.fdoca.specs.Walk.{Note, walk}
 use Rattle.terminated.specs.declared.Measured.{Measured}
-use Rattle.terminated.specs.Answer.{answer}
 use Rattle.fields.specs.Plan.{Planned}
-use Rattle.walks.specs.declared.Stop.{Stop}
-use Rattle.walks.specs.declared.Reached.{Reached}
-use Rattle.walks.specs.Entry.{measure_entry, step_of, Stepped}
-use Rattle.walks.specs.Marks.{stop_of, mark_of, last_of, MarkedPart, Marked}
+use Rattle.walks.specs.Entry.{measure_entry, length_of, StepOver}
+use Rattle.walks.specs.Marks.{mark_of, MarkedPart, Marked}
 use Rattle.walks.proofs.Parts.{entry_part}
-use Rattle.walks.proofs.Steps.{stopped_number, stopped_some, stepped_none, stepped_long}
-use Rattle.walks.proofs.Going.{Going, set_out, long, note_at, stops, stops_marking, goes_on, all_cut, all_marked}
+use Rattle.walks.proofs.Going.{Going, set_out, note_at, Noting, stops, stops_marking, goes_on, all_cut, all_marked}
 
-last_snoc : (ns : List Note) (n : Note) → last_of (ns ++ n ∷ []) ≡ step_of (answer (item n.is_null n.lead n.value n.spare))
-unfolding last_of
-last_snoc [] n = refl
-last_snoc (x ∷ []) n = refl
-last_snoc (x ∷ y ∷ ns) n = last_snoc (y ∷ ns) n
-
-as_measured : (m : Measured) → m.number ≡ 0 → m ≡ answer (item m.null m.lead m.value m.spare)
-unfolding answer
-as_measured m z = ap (λ n. record { number = n; null = m.null; lead = m.lead; value = m.value; spare = m.spare }) z
-
--- es was the part of a plan that is walked over from o on, now it is es'; k entries are marked, the last of them for the item `last`, and the walk goes
--- on at p
-pub record MarkingFor (o : ℕ) (es s es' : List ℕ) (p k last : ℕ) (fs : List Field) : Type 0 where
+-- es was the part of a plan that is walked over from o on, now it is es'; k entries are marked, and the walk goes on at p
+pub record MarkingFor (o : ℕ) (es s es' : List ℕ) (p k : ℕ) (fs : List Field) : Type 0 where
   pub notes : List Note
   pub going : Going o fs s (drop k es) p notes
   pub count : length notes ≡ k
   pub plan_is : es' ≡ map mark_of notes ++ drop k es
-  pub last_is : last ≡ last_of notes
 
-pub record Marking (o : ℕ) (es s es' : List ℕ) (p k last : ℕ) : Type 0 where
-  pub each : (fs : List Field) → Planned es fs → MarkingFor o es s es' p k last fs
+pub record Marking (o : ℕ) (es s es' : List ℕ) (p k : ℕ) : Type 0 where
+  pub each : (fs : List Field) → Planned es fs → MarkingFor o es s es' p k fs
 
-pub mark_start : (o : ℕ) (es s : List ℕ) → Marking o es s es o 0 0
-unfolding last_of
-mark_start o es s = record { each = λ fs h. record { notes = []; going = set_out o fs s es h; count = refl; plan_is = refl; last_is = refl } }
+pub mark_start : (o : ℕ) (es s : List ℕ) → Marking o es s es o 0
+mark_start o es s = record { each = λ fs h. record { notes = []; going = set_out o fs s es h; count = refl; plan_is = refl } }
 
 -- the entry at k as it was, and then the entries behind it
-module _ {o : ℕ} {es s es' : List ℕ} {p k last : ℕ} {fs : List Field} (w : MarkingFor o es s es' p k last fs) (i : k < length es) where
+module _ {o : ℕ} {es s es' : List ℕ} {p k : ℕ} {fs : List Field} (w : MarkingFor o es s es' p k fs) (i : k < length es) where
   apart : es' ≡ map mark_of w.notes ++ get_or es k 0 ∷ drop (suc k) es
   apart = w.plan_is ∙ ap (λ l. map mark_of w.notes ++ l) (drop-cons es k 0 i)
 
@@ -62,25 +49,22 @@ module _ {o : ℕ} {es s es' : List ℕ} {p k last : ℕ} {fs : List Field} (w :
   at_entry : Going o fs s (get_or es k 0 ∷ drop (suc k) es) p w.notes
   at_entry = rw (drop-cons es k 0 i) at w.going
 
-module _ (o : ℕ) (es s es' : List ℕ) (p k last step : ℕ) (i : k < length es') (l : length es' ≡ length es) (w : Marking o es s es' p k last) (small : length s ≤ 32768)
-    (t : Stepped (get_or es' k 0) s p step) where
-  abbrev m : Measured
-  m = answer (measure_entry (get_or es' k 0) (drop p s))
-
+module _ (o : ℕ) (es s es' : List ℕ) (p k : ℕ) (i : k < length es') (l : length es' ≡ length es) (w : Marking o es s es' p k) where
   module _ (fs : List Field) (f : Planned es fs) where
-    now : MarkingFor o es s es' p k last fs
+    now : MarkingFor o es s es' p k fs
     now = w.each fs f
 
     inside : k < length es
     inside = omega arith
 
-    answer_is : m ≡ answer (measure_entry (get_or es k 0) (drop p s))
-    answer_is = ap (λ e. answer (measure_entry e (drop p s))) (same_entry now inside)
+    there : measure_entry (get_or es' k 0) (drop p s) ≡ measure_entry (get_or es k 0) (drop p s)
+    there = ap (λ e. measure_entry e (drop p s)) (same_entry now inside)
 
-    more : m.number ≡ 0 → MarkingFor o es s (set es' k (get_or es' k 0 % 281474976710656 + p * 281474976710656)) (p + long m) (suc k) step fs
+    more : (m : Measured) → item m.null m.lead m.value m.spare ≡ measure_entry (get_or es' k 0) (drop p s)
+        → MarkingFor o es s (set es' k (get_or es' k 0 % 281474976710656 + p * 281474976710656)) (p + length_of m) (suc k) fs
     unfolding mark_of
-    more z =
-        let n = goes_on m (at_entry now inside) answer_is z in
+    more m h =
+        let n : Noting (at_entry now inside) m = goes_on (at_entry now inside) m (h ∙ there) in
         let x : Note = note_at n.field p m in
         let v : get_or es' k 0 % 281474976710656 + p * 281474976710656 ≡ mark_of x =
         omega (arith, same_entry now inside, n.entry_is, entry_part n.field 0 n.proper) in
@@ -93,25 +77,20 @@ module _ (o : ℕ) (es s es' : List ℕ) (p k last step : ℕ) (i : k < length e
               ∙ ap (λ y. map mark_of now.notes ++ y ∷ drop (suc k) es) v
               ∙ sym (append_snoc (map mark_of now.notes) (mark_of x) (drop (suc k) es))
               ∙ ap (λ l. l ++ drop (suc k) es) (sym (map-append mark_of now.notes (x ∷ [])));
-          last_is = t.step ∙ ap step_of (as_measured m z) ∙ sym (last_snoc now.notes x);
         }
 
-    pub mark_stop : (r : Reached) → 1152921504606846976 ≤ step → r ≡ record { number = step - 1152921504606846976; at = p; last = 0 } → MarkedPart r o es' fs s
-    mark_stop r h q =
-        let z : m.number ≡ 0 → ⊥ = stopped_some (get_or es' k 0) s p step small t h in
-        let a : r ≡ record { number = m.number; at = p; last = 0 } = q ∙ rw (stopped_number (get_or es' k 0) s p step small t h) in
+    pub mark_stop : (r : Reason) → refused (number_of r) ≡ measure_entry (get_or es' k 0) (drop p s) → MarkedPart (Err (record { reason = r; place = p })) o es' fs s
+    mark_stop r h =
         record {
-          marks = apart now inside ∙ sym (stops_marking m (at_entry now inside) answer_is z);
-          stops = λ y. rw a (stops m (at_entry now inside) answer_is z);
-          through = λ y. absurd (z (ap (λ x. x.number) (sym a) ∙ y));
+          marks = apart now inside ∙ sym (stops_marking (at_entry now inside) (number_of r) (h ∙ there));
+          answered = stops (at_entry now inside) (number_of r) (h ∙ there);
         }
 
-  pub mark_more : step < 1152921504606846976 → Marking o es s (set es' k (get_or es' k 0 % 281474976710656 + p * 281474976710656)) (p + step % 65536) (k + 1) step
-  mark_more o =
-      let z : m.number ≡ 0 = stepped_none (get_or es' k 0) s p step small t o in
-      rw (add-one, stepped_long (get_or es' k 0) s p step small t o) (record { each = λ fs f. more fs f z })
+  pub mark_more : (step : ℕ) → StepOver (get_or es' k 0) s p step
+      → Marking o es s (set es' k (get_or es' k 0 % 281474976710656 + p * 281474976710656)) (p + step) (k + 1)
+  mark_more step t = rw (add-one, t.step) (record { each = λ fs f. more fs f t.over t.measured })
 
-module _ (o : ℕ) (es s es' : List ℕ) (p k last : ℕ) (i : length es' ≤ k) (l : length es' ≡ length es) (w : Marking o es s es' p k last) (r : Reached) (fs : List Field) (f : Planned es fs) where
+module _ (o : ℕ) (es s es' : List ℕ) (p k : ℕ) (i : length es' ≤ k) (l : length es' ≡ length es) (w : Marking o es s es' p k) (fs : List Field) (f : Planned es fs) where
   none_left : drop k es ≡ []
   none_left = let h : length es ≤ k = omega arith in drop_of_length-le es h
 
@@ -122,34 +101,31 @@ module _ (o : ℕ) (es s es' : List ℕ) (p k last : ℕ) (i : length es' ≤ k)
   marked_through =
       (w.each fs f).plan_is ∙ ap (λ l. map mark_of (w.each fs f).notes ++ l) none_left ∙ append-nil (map mark_of (w.each fs f).notes)
 
-  pub mark_done : r ≡ record { number = 0; at = p; last = last } → MarkedPart r o es' fs s
-  mark_done q =
+  pub mark_done : MarkedPart (Ok p) o es' fs s
+  mark_done =
       record {
         marks = marked_through ∙ sym (all_marked all_through);
-        stops = λ y. absurd (y (ap (λ x. x.number) q));
-        through = λ y. rw q (record { notes = (w.each fs f).notes; cut = all_cut all_through; marked = marked_through; last_is = (w.each fs f).last_is });
+        answered = record { notes = (w.each fs f).notes; cut = all_cut all_through; marked = marked_through };
       }
 
 -- the walk over a whole plan from the data's beginning on
-module _ (s es es' : List ℕ) (r : Reached) (each : (fs : List Field) → Planned es fs → MarkedPart r 0 es' fs s) (a : Stop) (fs : List Field) (f : Planned es fs) where
-  abbrev x : MarkedPart r 0 es' fs s
-  x = each fs f
+module _ (s es es' : List ℕ) (fs : List Field) (f : Planned es fs) where
+  pub mark_stopped : (x : Refusal) → ((fs : List Field) → Planned es fs → MarkedPart (Err x) 0 es' fs s) → Marked (Err x) es' fs s
+  unfolding walk
+  mark_stopped x each = let w = each fs f in record { answered = rw w.answered; marks = w.marks }
 
-  pub mark_stopped : r.number ≢ 0 → a ≡ record { number = r.number; place = r.at } → Marked a es' fs s
-  unfolding walk stop_of
-  mark_stopped z q = record { answered = rw (x.stops z) q; marks = x.marks }
+  module _ (r : ℕ) (each : (fs : List Field) → Planned es fs → MarkedPart (Ok r) 0 es' fs s) where
+    abbrev x : MarkedPart (Ok r) 0 es' fs s
+    x = each fs f
 
-  pub mark_surplus : r.number ≡ 0 → r.at < length s → a ≡ record { number = 16; place = r.at } → Marked a es' fs s
-  unfolding walk stop_of
-  mark_surplus z h q =
-      let k : 0 < length (drop r.at s) = omega (arith, length-drop r.at s) in
-      record { answered = rw ((x.through z).cut, lt-ltb 0 (length (drop r.at s)) k) q; marks = x.marks }
+    pub mark_surplus : r < length s → Marked (Err (record { reason = Surplus; place = r })) es' fs s
+    unfolding walk
+    mark_surplus h =
+        let k : 0 < length (drop r s) = omega (arith, length-drop r s) in
+        record { answered = rw (x.answered.cut, lt-ltb 0 (length (drop r s)) k); marks = x.marks }
 
-  pub mark_ended : r.number ≡ 0 → length s ≤ r.at → a ≡ record { number = 0; place = 0 } → Marked a es' fs s
-  unfolding walk stop_of
-  mark_ended z h q =
-      let k : length (drop r.at s) ≤ 0 = omega (arith, length-drop r.at s) in
-      record { answered = rw ((x.through z).cut, le-ltb 0 (length (drop r.at s)) k) q; marks = x.marks }
-
-pub reached_inside : (r : Reached) (n p l : ℕ) (s : List ℕ) → r ≡ record { number = n; at = p; last = l } → p ≤ length s → r.at ≤ length s
-reached_inside r n p l s q h = rw q h
+    pub mark_ended : length s ≤ r → Marked (Ok tt) es' fs s
+    unfolding walk
+    mark_ended h =
+        let k : length (drop r s) ≤ 0 = omega (arith, length-drop r s) in
+        record { answered = rw (x.answered.cut, le-ltb 0 (length (drop r s)) k); marks = x.marks }

@@ -6,7 +6,7 @@ use mathlib.Core.List.{List}
 use native.Mathlib.Omega.{arith}
 use Rattle.fdoca.specs.FieldType.{rule_of}
 use Rattle.fdoca.specs.Item.{Field, field_length, measure}
-use Rattle.field_types.specs.Rows.{prefix_of}
+use Rattle.field_types.specs.Layouts.{prefix_of}
 use Rattle.field_types.proofs.Rows.{layout_back, prefix_below_4}
 use Rattle.fields.specs.Plan.{entry_of, Proper}
 use Rattle.walks.specs.Entry.{measure_entry}

@@ -2,24 +2,26 @@
 -- Assumes nothing.
 use Prim.Native.Nat.{ℕ, zero, suc, ◌+◌, ◌-◌, ◌*◌, ◌%◌, ◌<◌, ◌≤◌, min}
 use mathlib.Core.Path.{◌≡◌, refl, sym, ap, ◌∙◌}
-use mathlib.Core.Logic.{◌≢◌, inl, inr}
+use mathlib.Core.Logic.{inl, inr}
 use mathlib.Core.Bool.{false}
 use mathlib.Core.List.{List, [], ◌∷◌, ◌++◌, map, map-append, append_assoc, append-nil}
 use native.Mathlib.Numerals.{add-one}
 use native.Mathlib.Omega.{arith}
-use lib.ListN.{length, get_or, set, take, drop, length-append, length-drop, length-map, length-set}
-use lib.Seq.{paste, paste-zero, paste-suc, length-paste, drop-paste, drop-length, take_at, drop_at, take-add, take_all, take-take, take-append-add, length-take-le, get_or-take, get_or-drop}
+use lib.ListN.{length, get_or, set, take, drop, length-append, length-drop, length-map, length-set, drop_of_length-le}
+use lib.Seq.{paste, paste-zero, paste-suc, length-paste, drop-paste, take_at, drop_at, take-add, take_all, take-take, take-append-add, length-take-le, get_or-take, get_or-drop}
+use Rattle.std.specs.Prelude.{Ok, Err}
+use Rattle.fdoca.specs.declared.Reason.TheVariants.{TooManyItems}
+use Rattle.fdoca.specs.declared.Refusal.{Refusal}
 use Rattle.fdoca.specs.Basics.{is_empty, Result, refuse, ok, ◌>>=◌}
 use Rattle.fdoca.specs.Item.{Field, Measured, refused, item, measure}
+use Rattle.fdoca.specs.Returned.{number_of}
 use Rattle.fdoca.specs.Walk.{Note, item_length, Cut, note_of, cut_from, rows_from}
 use Rattle.fdoca.proofs.Tests.{by_order}
 use Rattle.fdoca.proofs.Rows.{rows_through, rows_short, rows_end, rows_begin}
 use Rattle.fields.specs.Plan.{entry_of, Planned, empty, entry}
-use Rattle.walks.specs.declared.Reached.{Reached}
-use Rattle.walks.specs.declared.Passed.{Passed}
-use Rattle.walks.specs.Marks.{mark_of, mark_or, marks_from, MarkedPart}
+use Rattle.walks.specs.Marks.{mark_of, mark_or, marks_from, Through, MarkedPart}
 use Rattle.walks.specs.Finding.{IsPlan}
-use Rattle.walks.specs.Passes.{unmarked, Apart, wide, PassPlan, IsPassPlan, passed_behind, MarkedPasses}
+use Rattle.walks.specs.Passes.{unmarked, Apart, wide, PassPlan, IsPassPlan, MarkedPasses}
 use Rattle.walks.proofs.Parts.{entry_part}
 use Rattle.walks.proofs.Going.{entries_are}
 
@@ -85,6 +87,8 @@ module _ (es : List ℕ) (before k m : ℕ) (apart : Apart before m k) (room : k
 
     pub all_copied : m ≤ i → es' ≡ paste es k source m
     all_copied h = let e : i ≡ m = omega (arith, w.within) in rw (← e) w.copied
+
+pub ruleset copy_ways = (none_copied, one_copied, all_copied)
 
 -- ---- entries and their marks
 
@@ -171,15 +175,14 @@ pass_start es s before once o x h =
     }
 
 -- the answer of a walk that is refused
-answer_refused : (a : Passed) (es es' s : List ℕ) (before o : ℕ) (rows : List Field) (n q : ℕ) → length es' ≡ length es
-    → rows_from (length es - before) o rows [] (drop o s) ≡ refuse n q → a ≡ record { number = n; place = q; count = 0 } → MarkedPasses a es es' before o rows s
-unfolding passed_behind
-answer_refused a es es' s before o rows n q l e x =
+answer_refused : (x : Refusal) (es es' s : List ℕ) (before o : ℕ) (rows : List Field) → length es' ≡ length es
+    → rows_from (length es - before) o rows [] (drop o s) ≡ refuse (number_of x.reason) x.place → MarkedPasses (Err x) es es' before o rows s
+answer_refused x es es' s before o rows l e =
     record {
-      answered = rw e x;
+      answered = rw e;
       marks = λ ns y. absurd (let z : ◌≡◌ {A = ℕ} 0 1 = cc in let o : ⊥ = omega arith in o);
       same_length = l;
-      few = rw x (omega arith);
+      few = tt;
     }
 
 -- another pass: m entries of it are copied to the places from k to e, and walked over there
@@ -221,22 +224,22 @@ module _ (es s es' xs : List ℕ) (before once o p k m e : ℕ) (w : Passing es 
   pub part_is_plan : IsPassPlan es before once → IsPlan (take (e - k) (drop k xs))
   part_is_plan x = record { fields = take m x.rows; planned = part_planned x.rows x.pass_plan }
 
-  module _ (more : p ≢ length s) (ys : List ℕ) (r : Reached) (part : (fs : List Field) → Planned (take (e - k) (drop k xs)) fs → MarkedPart r p ys fs s) where
+  abbrev rejoined : List ℕ → List ℕ
+  rejoined ys = take k xs ++ (ys ++ drop (e - k) (drop k xs))
+
+  module _ (more : p < length s) (ys : List ℕ) (marked : (fs : List Field) → Planned (take (e - k) (drop k xs)) fs → ys ≡ marks_from p fs (drop p s)) where
     abbrev after : List ℕ
-    after = take k xs ++ (ys ++ drop (e - k) (drop k xs))
+    after = rejoined ys
 
     module _ (rows : List Field) (f : PassPlan es before once rows) where
       abbrev fs : List Field
       fs = take m rows
 
-      own : MarkedPart r p ys fs s
-      own = part fs (part_planned rows f)
-
       fs_long : length fs ≡ m
       fs_long = length-take-le m rows (omega (arith, f.once_is))
 
       unmarked_ys : unmarked ys ≡ map entry_of fs
-      unmarked_ys = ap unmarked own.marks ∙ unmarked_marks p (drop p s) (part_planned rows f) ∙ part_is rows f
+      unmarked_ys = ap unmarked (marked fs (part_planned rows f)) ∙ unmarked_marks p (drop p s) (part_planned rows f) ∙ part_is rows f
 
       ys_size : length ys ≡ m
       ys_size = sym (length-map ys (λ e. e % 281474976710656)) ∙ ap length unmarked_ys ∙ length-map fs entry_of ∙ fs_long
@@ -298,18 +301,10 @@ module _ (es s es' xs : List ℕ) (before once o p k m e : ℕ) (w : Passing es 
           let t : fs ≡ rows = take_all m rows (omega (arith, f.once_is)) in
           ap (λ n. rows_from n p rows rows (drop p s)) q ∙ rows_through rows rows less p (drop p s) ∙ ap (λ l. cut_from p l (drop p s) >>= then_on) (sym t)
 
-      refused_pass : r.number ≢ 0 → rows_from (now rows f).room p rows rows (drop p s) ≡ refuse r.number r.at
-      refused_pass z =
-          by_order m once (λ h. short h ∙ ap (λ x. x >>= λ c. refuse 10 c.end) (own.stops z)) (λ q. full (omega arith) ∙ ap (λ x. x >>= then_on) (own.stops z))
-          (λ h. full (omega arith) ∙ ap (λ x. x >>= then_on) (own.stops z))
-
-      pub pass_stop : (a : Passed) → r.number ≢ 0 → a ≡ record { number = r.number; place = r.at; count = 0 } → MarkedPasses a es after before o rows s
-      pass_stop a z x = answer_refused a es after s before o rows r.number r.at after_long (goes (refuse r.number r.at) (refused_pass z)) x
-
-      pub pass_full : (a : Passed) → r.number ≡ 0 → m < once → a ≡ record { number = 10; place = r.at; count = 0 } → MarkedPasses a es after before o rows s
-      pass_full a z h x =
-          answer_refused a es after s before o rows 10 r.at after_long
-          (goes (refuse 10 r.at) (short h ∙ ap (λ x. x >>= λ c. refuse 10 c.end) (own.through z).cut)) x
+      refused_pass : (n q : ℕ) → cut_from p fs (drop p s) ≡ refuse n q → rows_from (now rows f).room p rows rows (drop p s) ≡ refuse n q
+      refused_pass n q z =
+          by_order m once (λ h. short h ∙ ap (λ x. x >>= λ c. refuse 10 c.end) z) (λ q. full (omega arith) ∙ ap (λ x. x >>= then_on) z)
+          (λ h. full (omega arith) ∙ ap (λ x. x >>= then_on) z)
 
       -- a whole pass is taken, and the walk goes on behind it
       fields_there : once ≤ m → take (wide es before once) (unmarked (drop before after)) ≡ map entry_of (take (wide es before once) rows)
@@ -335,19 +330,18 @@ module _ (es s es' xs : List ℕ) (before once o p k m e : ℕ) (w : Passing es 
               take_map (λ e. e % 281474976710656) (wide es before once) (drop before after) ∙ ap unmarked t
               ∙ sym (take_map (λ e. e % 281474976710656) (wide es before once) (drop before es')) ∙ (now rows f).pass_there
 
-      taken_on : r.number ≡ 0 → once ≤ m → PassingFor es s after before once o r.at e rows
-      taken_on z h =
-          let t = own.through z in
+      taken_on : (r : ℕ) → Through r p ys fs s → once ≤ m → PassingFor es s after before once o r e rows
+      taken_on r t h =
           let old : List Note = (now rows f).notes in
           let n : length t.notes ≡ m = sym (length-map t.notes mark_of) ∙ ap length (sym t.marked) ∙ ys_size in
-          let x : rows_from (now rows f).room p rows rows (drop p s) ≡ then_on (record { notes = t.notes; end = r.at; rest = drop r.at s }) =
+          let x : rows_from (now rows f).room p rows rows (drop p s) ≡ then_on (record { notes = t.notes; end = r; rest = drop r s }) =
           full h ∙ ap (λ x. x >>= then_on) t.cut in
           record {
             notes = old ++ t.notes;
             room = less;
             counted = omega (arith, length-append old t.notes, (now rows f).counted, n);
             room_is = omega (arith, w.among, w.same_length);
-            whole = goes (then_on (record { notes = t.notes; end = r.at; rest = drop r.at s })) x ∙ both old t.notes (rows_from less r.at rows [] (drop r.at s));
+            whole = goes (then_on (record { notes = t.notes; end = r; rest = drop r s })) x ∙ both old t.notes (rows_from less r rows [] (drop r s));
             marks = ap (λ n. take n after) (e-is ∙ ap (λ x. x + m) (sym front_long)) ∙ take-append-add (take k xs) (ys ++ drop (e - k) (drop k xs)) m
                 ∙ ap (λ l. take k xs ++ l) (take_at ys (drop (e - k) (drop k xs)) m ys_size)
                 ∙ ap (λ l. l ++ ys) (front ∙ (now rows f).marks) ∙ ap (λ l. (take before es ++ map mark_of old) ++ l) t.marked
@@ -359,31 +353,50 @@ module _ (es s es' xs : List ℕ) (before once o p k m e : ℕ) (w : Passing es 
           both a b (refuse n q) = refl
           both a b (ok ns) = ap (λ l. ok l) (sym (append_assoc a b ns))
 
-    pub pass_more : IsPassPlan es before once → r.number ≡ 0 → once ≤ m → r.at ≤ length s → Passing es s after before once o r.at e
-    pass_more x z h l =
-        record {
-          among = omega (arith, w.among, w.same_length);
-          within = l;
-          behind = inr (omega (arith, start_first x.rows x.pass_plan));
-          same_length = after_long x.rows x.pass_plan;
-          each = λ rows f. taken_on rows f z h;
-        }
+  module _ (more : p < length s) (ys : List ℕ) where
+    pub pass_stop : (x : Refusal) → ((fs : List Field) → Planned (take (e - k) (drop k xs)) fs → MarkedPart (Err x) p ys fs s)
+        → (rows : List Field) → PassPlan es before once rows → MarkedPasses (Err x) es (rejoined ys) before o rows s
+    pass_stop x part rows f =
+        let own = part (take m rows) (part_planned rows f) in
+        let marked = λ (fs : List Field) (h : Planned (take (e - k) (drop k xs)) fs). (part fs h).marks in
+        answer_refused x es (rejoined ys) s before o rows (after_long more ys marked rows f)
+        (goes more ys marked rows f (refuse (number_of x.reason) x.place) (refused_pass more ys marked rows f (number_of x.reason) x.place own.answered))
+
+    module _ (r : ℕ) (part : (fs : List Field) → Planned (take (e - k) (drop k xs)) fs → MarkedPart (Ok r) p ys fs s) where
+      each_marked : (fs : List Field) → Planned (take (e - k) (drop k xs)) fs → ys ≡ marks_from p fs (drop p s)
+      each_marked fs h = (part fs h).marks
+
+      pub pass_full : m < once → (rows : List Field) → PassPlan es before once rows
+          → MarkedPasses (Err (record { reason = TooManyItems; place = r })) es (rejoined ys) before o rows s
+      pass_full h rows f =
+          answer_refused (record { reason = TooManyItems; place = r }) es (rejoined ys) s before o rows (after_long more ys each_marked rows f)
+          (goes more ys each_marked rows f (refuse 10 r)
+          (short more ys each_marked rows f h ∙ ap (λ x. x >>= λ c. refuse 10 c.end) (part (take m rows) (part_planned rows f)).answered.cut))
+
+      pub pass_more : IsPassPlan es before once → once ≤ m → r ≤ length s → Passing es s (rejoined ys) before once o r e
+      pass_more x h l =
+          record {
+            among = omega (arith, w.among, w.same_length);
+            within = l;
+            behind = inr (omega (arith, start_first x.rows x.pass_plan));
+            same_length = after_long more ys each_marked x.rows x.pass_plan;
+            each = λ rows f. taken_on more ys each_marked rows f r (part (take m rows) (part_planned rows f)).answered h;
+          }
 
 -- a pass would begin with no data left
-pub pass_good : (es s es' : List ℕ) (before once o p k : ℕ) → Passing es s es' before once o p k → (rows : List Field) → PassPlan es before once rows
-    → p ≡ length s → (a : Passed) → a ≡ record { number = 0; place = 0; count = k } → MarkedPasses a es es' before o rows s
-unfolding passed_behind
-pass_good es s es' before once o p k w rows f q a x =
+pub pass_good : (es s es' : List ℕ) (before once o p k : ℕ) → Passing es s es' before once o p k → length s ≤ p → (rows : List Field) → PassPlan es before once rows
+    → MarkedPasses (Ok k) es es' before o rows s
+pass_good es s es' before once o p k w q rows f =
     let now = w.each rows f in
-    let d : drop p s ≡ [] = rw q (drop-length s) in
+    let d : drop p s ≡ [] = drop_of_length-le s q in
     let z : rows_from (length es - before) o rows [] (drop o s) ≡ ok now.notes =
     now.whole ∙ ap (λ l. rows_from now.room p rows [] l >>= λ ns. ok (now.notes ++ ns)) d ∙ ap (λ x. x >>= λ ns. ok (now.notes ++ ns)) (rows_end rows now.room p)
     ∙ ap (λ ns. ok ns) (append-nil now.notes) in
     record {
-      answered = rw (z, now.counted) x;
+      answered = rw (z, now.counted);
       marks = λ ns y. let e : now.notes ≡ ns = cc in rw (← e, now.counted) now.marks;
       same_length = w.same_length;
-      few = rw x w.among;
+      few = w.among;
     }
 
 -- what is copied stands before its place, or at it, and there is room for it

@@ -13,7 +13,6 @@ use Rattle.fdoca.specs.Basics.{Result, refuse, ok, ◌>>=◌}
 use Rattle.fdoca.specs.Item.{Field, Measured, refused, item, measure}
 use Rattle.fdoca.specs.Walk.{Note, item_length, note_of, coming, used_up, item_then, rows_from}
 use Rattle.fdoca.proofs.Tests.{by_test}
-use Rattle.items.proofs.Inside.{Numbered, numbered_item}
 use Rattle.fields.specs.Plan.{entry_of, Proper, Planned, entry}
 use Rattle.walks.specs.Marks.{Noted, nothing}
 use Rattle.walks.specs.Passes.{RowPlan}
@@ -56,14 +55,10 @@ row_plan plan plan' before once bs rows p q b o h k e =
       entries = rw (l, ← n, e) (first_written plan (map entry_of (bs ++ rows)));
     }
 
--- a refusal has a number, and the notes are of proper fields
+-- the notes are of proper fields
 abbrev Told : Result (List Note) → Type 0
-Told (refuse n p) = 0 < n
+Told (refuse n p) = Unit {0}
 Told (ok ns) = Noted ns
-
-numbered_field : (f : Field) (s : List ℕ) → Numbered (measure f s)
-unfolding measure
-numbered_field f s = numbered_item _ _ _ _ s
 
 first_proper : {e : ℕ} {es : List ℕ} {f : Field} {fs : List Field} → Planned (e ∷ es) (f ∷ fs) → Proper f × Planned es fs
 first_proper (entry h k) = (h, k)
@@ -72,15 +67,15 @@ told_then : (p : ℕ) (s : List ℕ) (others : Note → List Field → Result (L
     → ((n : Note) (left : List Field) → Planned (map entry_of left) left → Told (others n left)) → Told (item_then fs p s others)
 unfolding note_of
 told_then p s others [] h g = nothing
-told_then p s others (f ∷ fs) h g = go (measure f s) (numbered_field f s)
+told_then p s others (f ∷ fs) h g = go (measure f s)
   where
     later : (n : Note) (r : Result (List Note)) → Proper n.field → Told r → Told (r >>= λ ns. ok (n ∷ ns))
-    later n (refuse k q) x t = t
+    later n (refuse k q) x t = tt
     later n (ok ns) x t = Noted.item x t
 
-    go : (m : Measured) → Numbered m → Told (note_of f p m >>= λ n. others n fs >>= λ ns. ok (n ∷ ns))
-    go (refused n) k = k
-    go (item z l v r) k = later _ (others _ fs) (first_proper h).0 (g _ fs (first_proper h).1)
+    go : (m : Measured) → Told (note_of f p m >>= λ n. others n fs >>= λ ns. ok (n ∷ ns))
+    go (refused n) = tt
+    go (item z l v r) = later _ (others _ fs) (first_proper h).0 (g _ fs (first_proper h).1)
 
 proper_coming : (rows fs : List Field) → Planned (map entry_of rows) rows → Planned (map entry_of fs) fs → Planned (map entry_of (coming rows fs)) (coming rows fs)
 proper_coming rows [] h k = h
@@ -88,7 +83,7 @@ proper_coming rows (f ∷ fs) h k = k
 
 told_from : (room p : ℕ) (rows fs : List Field) (s : List ℕ) → Planned (map entry_of rows) rows → Planned (map entry_of fs) fs → Told (rows_from room p rows fs s)
 unfolding rows_from
-told_from zero p rows fs s h k = by_test Told (used_up fs s) (λ t. nothing) (λ t. omega arith)
+told_from zero p rows fs s h k = by_test Told (used_up fs s) (λ t. nothing) (λ t. tt)
 told_from (suc room) p rows fs s h k =
     by_test Told (used_up fs s) (λ t. nothing)
     (λ t. told_then p s (λ n left. rows_from room (p + item_length n) rows left (drop (item_length n) s)) (coming rows fs) (proper_coming rows fs h k)

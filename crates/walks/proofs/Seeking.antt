@@ -1,28 +1,21 @@
 -- An item by its mark, where the walk has found the block good.
 -- Assumes nothing.
-use Rattle.std.specs.Prelude.{if◌then◌else◌}
-use Prim.Native.Nat.{ℕ, ◌+◌, ◌-◌, ◌/◌, ◌%◌, ◌≤◌}
-use mathlib.Core.Path.{◌≡◌, refl, sym, ap, ◌∙◌}
-use mathlib.Core.Bool.{Bool, true, false}
-use mathlib.Core.List.{List, [], ◌∷◌}
+use Rattle.std.specs.Prelude.{Result, Ok, Err, IsOk}
+use Prim.Native.Nat.{ℕ, ◌/◌, ◌%◌, ◌≤◌}
+use mathlib.Core.Path.{◌≡◌, ap, ◌∙◌}
+use mathlib.Core.List.{List}
 use native.Mathlib.Omega.{arith}
-use lib.Dec.{leb, eqb}
-use lib.ListN.{length, drop, length-drop}
-use borrow.Author.Tests.{eqb-true, eqb-false}
-use Rattle.fdoca.specs.Basics.{ok}
-use Rattle.fdoca.specs.Item.{Field, item}
-use Rattle.fdoca.specs.Walk.{Note, item_length, Cut, note_of, with, cut_from}
-use Rattle.fdoca.proofs.Within.{within}
+use lib.ListN.{length, drop}
+use Rattle.fdoca.specs.declared.Reason.{Reason}
+use Rattle.fdoca.specs.Item.{item}
+use Rattle.fdoca.specs.Walk.{Note}
 use Rattle.terminated.specs.declared.Measured.{Measured}
-use Rattle.terminated.specs.Answer.{answer}
-use Rattle.fields.specs.Plan.{entry_of, Planned, empty, entry}
-use Rattle.walks.specs.declared.Reached.{Reached}
-use Rattle.walks.specs.Entry.{step_of}
-use Rattle.walks.specs.Marks.{mark_of, last_of, MarkedPart}
-use Rattle.walks.specs.Finding.{found_of, IsPlan, MarkIn, IsMark, FoundBy}
-use Rattle.walks.proofs.Parts.{entry_part, mark_part}
-use Rattle.walks.proofs.Going.{long}
-use Rattle.walks.proofs.Steps.{item_long, item_lead, item_spare, item_mark}
+use Rattle.terminated.specs.Answer.{measured}
+use Rattle.fields.specs.Plan.{entry_of}
+use Rattle.walks.specs.Entry.{measure_entry}
+use Rattle.walks.specs.Marks.{mark_of}
+use Rattle.walks.specs.Finding.{MarkIn, IsMark, FoundBy}
+use Rattle.walks.proofs.Parts.{entry_part, mark_part, entry_measures}
 
 -- the item of a mark, by the mark's parts
 module _ (s : List ℕ) (e : ℕ) (n : Note) (h : MarkIn s e n) where
@@ -34,93 +27,31 @@ module _ (s : List ℕ) (e : ℕ) (n : Note) (h : MarkIn s e n) where
   unfolding mark_of
   entry_is = rw h.mark (entry_part n.field n.start h.proper)
 
-  alone : Planned (e % 281474976710656 ∷ []) (n.field ∷ [])
-  alone = rw entry_is (entry h.proper empty)
-
-  cut_alone : cut_from (e / 281474976710656) (n.field ∷ []) (drop (e / 281474976710656) s) ≡ ok (with n (record { notes = []; end = n.start + item_length n; rest = drop (item_length n) (drop n.start s) }))
-  unfolding cut_from note_of
-  cut_alone = rw (start_is, h.stands.measured)
+  measures : measure_entry e (drop (e / 281474976710656) s) ≡ item n.is_null n.lead n.value n.spare
+  unfolding mark_of
+  measures = rw start_is (ap (λ e. measure_entry e (drop n.start s)) h.mark ∙ entry_measures n.field n.start (drop n.start s) h.proper ∙ h.stands.measured)
 
 pub mark_inside : (s : List ℕ) (e : ℕ) → IsMark s e → e / 281474976710656 ≤ length s
 mark_inside s e h = rw (start_is s e h.note h.mark_in) h.mark_in.stands.starts
 
-pub mark_alone : (s : List ℕ) (e : ℕ) → IsMark s e → IsPlan (e % 281474976710656 ∷ [])
-mark_alone s e h = record { fields = h.note.field ∷ []; planned = alone s e h.note h.mark_in }
+-- what is measured at the mark's place is that item
+module _ (s : List ℕ) (e : ℕ) (r : Result Measured Reason) (told : measured r ≡ measure_entry e (drop (e / 281474976710656) s)) where
+  pub mark_measured : IsMark s e → IsOk r
+  mark_measured h = go r (told ∙ measures s e h.note h.mark_in)
+    where
+      go : (r : Result Measured Reason) → measured r ≡ item h.note.is_null h.note.lead h.note.value h.note.spare → IsOk r
+      go (Ok x) q = search
+      go (Err x) q = absurd (let z : ◌≡◌ {A = ℕ} 0 1 = cc in let w : ⊥ = omega arith in w)
 
-ok_of_ok : {c d : Cut} → ok c ≡ ok d → c ≡ d
-ok_of_ok e = cc
-
--- the walk over a mark's entry alone tells its item
-module _ (s : List ℕ) (e : ℕ) (r : Reached) (part : List ℕ) (each : (fs : List Field) → Planned (e % 281474976710656 ∷ []) fs → MarkedPart r (e / 281474976710656) part fs s)
-    (few : length s ≤ 32768) where
-  module _ (n : Note) (h : MarkIn s e n) where
-    abbrev m : Measured
-    m = answer (item n.is_null n.lead n.value n.spare)
-
-    last_alone : r.last ≡ step_of m
-    unfolding last_of
-    last_alone = go (eqb r.number 0) refl
-      where
-        x : MarkedPart r (e / 281474976710656) part (n.field ∷ []) s
-        x = each (n.field ∷ []) (alone s e n h)
-
-        go : (b : Bool) → eqb r.number 0 ≡ b → r.last ≡ step_of m
-        go true t =
-            let y = x.through (eqb-true r.number 0 t) in
-            let q : y.notes ≡ n ∷ [] = ap (λ c. c.notes) (ok_of_ok (sym y.cut ∙ cut_alone s e n h)) in
-            y.last_is ∙ ap last_of q
-        go false t = let y = x.stops (eqb-false r.number 0 t) in let c = cut_alone s e n h in absurd (let z : ◌≡◌ {A = ℕ} 0 1 = cc in let w : ⊥ = omega arith in w)
-
-    fits : long m ≤ 32768
-    unfolding answer
-    fits =
-        let w : n.lead + n.value + n.spare ≤ length (drop n.start s) = rw h.stands.measured at (within n.field (drop n.start s)) in
-        omega (arith, length-drop n.start s)
-
-    none_refused : m.number ≡ 0
-    unfolding answer
-    none_refused = refl
-
-    lead_told : r.last / 1048576 % 65536 ≡ n.lead
-    unfolding answer
-    lead_told = rw last_alone (item_lead m fits none_refused)
-
-    spare_told : r.last / 68719476736 % 65536 ≡ n.spare
-    unfolding answer
-    spare_told = rw last_alone (item_spare m fits none_refused)
-
-    pub long_told : r.last % 65536 ≡ n.lead + n.value + n.spare
-    unfolding answer
-    long_told = rw last_alone (item_long m fits none_refused)
-
-    value_told : r.last % 65536 - r.last / 1048576 % 65536 - r.last / 68719476736 % 65536 ≡ n.value
-    value_told = omega (arith, lead_told, spare_told, long_told)
-
-    null_told : leb 1 (r.last / 131072 % 2) ≡ n.is_null
-    unfolding answer
-    null_told = rw (last_alone, item_mark m fits none_refused) (go n.is_null)
-      where
-        go : (b : Bool) → leb 1 (if b then 1 else 0) ≡ b
-        go true = refl
-        go false = refl
-
-  module _ (h : IsMark s e) where
-    pub lead_below : r.last / 1048576 % 65536 ≤ r.last % 65536
-    lead_below = omega (arith, lead_told h.note h.mark_in, long_told h.note h.mark_in)
-
-    pub spare_below : r.last / 68719476736 % 65536 ≤ r.last % 65536 - r.last / 1048576 % 65536
-    spare_below = omega (arith, lead_told h.note h.mark_in, spare_told h.note h.mark_in, long_told h.note h.mark_in)
-
-  pub mark_found : FoundBy s e
-      (record {
-        number = 0;
-        place = 0;
-        start = e / 281474976710656;
-        null = leb 1 (r.last / 131072 % 2);
-        lead = r.last / 1048576 % 65536;
-        value = r.last % 65536 - r.last / 1048576 % 65536 - r.last / 68719476736 % 65536;
-        spare = r.last / 68719476736 % 65536;
-        entry = e % 281474976710656;
-      })
-  unfolding found_of
-  mark_found = record { each = λ n h. rw (start_is s e n h, entry_is s e n h, null_told n h, value_told n h, lead_told n h, spare_told n h) }
+  pub mark_found : (x : Measured) → r ≡ Ok x
+      → FoundBy s e
+      (record { start = e / 281474976710656; null = x.null; lead = x.lead; value = x.value; spare = x.spare; entry = e % 281474976710656 })
+  mark_found x q = record {
+    each = λ n h.
+        let k : item x.null x.lead x.value x.spare ≡ item n.is_null n.lead n.value n.spare = rw q at (told ∙ measures s e n h) in
+        let a : x.null ≡ n.is_null = cc in
+        let b : x.lead ≡ n.lead = cc in
+        let c : x.value ≡ n.value = cc in
+        let d : x.spare ≡ n.spare = cc in
+        rw (start_is s e n h, entry_is s e n h, a, b, c, d);
+  }

@@ -122,3 +122,5 @@ room_kept l es i j v w h = rw (length-set, length-set) h
 
 pub long_kept : (l old : List ℕ) (i j v w : ℕ) → length l ≡ length (set (set old i v) j w) → length l ≡ length old
 long_kept l old i j v w h = h ∙ length-set (set old i v) j w ∙ length-set old i v
+
+pub ruleset write_ways = (room_kept, write_start, write_more, write_done)

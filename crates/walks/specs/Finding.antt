@@ -1,22 +1,15 @@
 -- One item of a block: where it starts, and how its bytes are laid out.
-use Rattle.std.specs.Prelude.{ℕ, ◌/◌, ◌%◌, ◌≡◌, false, List}
-use Rattle.fdoca.specs.declared.State.{State}
-use Rattle.fdoca.specs.Basics.{Result, refuse, ok}
-use Rattle.fdoca.specs.Item.{Field}
+use Rattle.std.specs.Prelude.{ℕ, ◌≡◌, List}
 use Rattle.fdoca.specs.Walk.{Note}
+use Rattle.fdoca.specs.Item.{Field}
 use Rattle.fdoca.specs.Between.{Stands}
 use Rattle.fields.specs.Plan.{entry_of, Proper, Planned}
 use Rattle.walks.specs.declared.Found.{Found}
 use Rattle.walks.specs.Marks.{mark_of}
 
--- A refusal has its number and place, zeros and no null mark; an item has number 0 and place 0.
-unfoldable pub found_of : Result Note → Found
-found_of (refuse n p) = record { number = n; place = p; start = 0; null = false; lead = 0; value = 0; spare = 0; entry = 0 }
-found_of (ok n) = record { number = 0; place = 0; start = n.start; null = n.is_null; lead = n.lead; value = n.value; spare = n.spare; entry = entry_of n.field }
-
--- The state call's answer, by what was found.
-abbrev pub state_found : Found → State
-state_found r = record { number = r.number; place = r.place; null = r.null; code = r.entry / 16777216 % 256; lead = r.lead; value = r.value; spare = r.spare }
+-- A noted item as it is found.
+abbrev pub found_of : Note → Found
+found_of n = record { start = n.start; null = n.is_null; lead = n.lead; value = n.value; spare = n.spare; entry = entry_of n.field }
 
 -- The numbers es are a plan.
 pub record IsPlan (es : List ℕ) : Type 0 where
@@ -35,4 +28,4 @@ pub record IsMark (s : List ℕ) (e : ℕ) : Type 0 where
 
 -- What is found by such a mark is that item.
 pub record FoundBy (s : List ℕ) (e : ℕ) (r : Found) : Type 0 where
-  pub each : (n : Note) → MarkIn s e n → r ≡ found_of (ok n)
+  pub each : (n : Note) → MarkIn s e n → r ≡ found_of n

@@ -1,18 +1,12 @@
 -- The walk's answer, the plan that it leaves, and the item list by that plan. A marked entry has its item's position in the highest 16 bits.
-use Rattle.std.specs.Prelude.{ℕ, ◌+◌, ◌*◌, ◌/◌, ◌%◌, ◌≡◌, ◌≢◌, List, [], ◌∷◌, ◌++◌, map, length, drop}
-use Rattle.fdoca.specs.Basics.{Result, refuse, ok}
+use Rattle.std.specs.Prelude.{ℕ, ◌+◌, ◌*◌, ◌/◌, ◌%◌, ◌≡◌, List, [], ◌∷◌, ◌++◌, map, length, drop, Ok, Err}
+use Rattle.std.specs.Prelude as code
+use Rattle.fdoca.specs.declared.Refusal.{Refusal}
+use Rattle.fdoca.specs.Basics.{Result, refuse, ok, ◌>>=◌}
 use Rattle.fdoca.specs.Item.{Field, measure}
-use Rattle.fdoca.specs.Item as defined
+use Rattle.fdoca.specs.Returned.{number_of, answer}
 use Rattle.fdoca.specs.Walk.{Note, item_length, note_of, cut_from, walk}
-use Rattle.terminated.specs.Answer.{answer}
 use Rattle.fields.specs.Plan.{entry_of, Proper}
-use Rattle.walks.specs.declared.Stop.{Stop}
-use Rattle.walks.specs.declared.Reached.{Reached}
-use Rattle.walks.specs.Entry.{step_of}
-
-unfoldable pub stop_of : Result (List Note) → Stop
-stop_of (refuse n p) = record { number = n; place = p }
-stop_of (ok ns) = record { number = 0; place = 0 }
 
 unfoldable pub mark_of : Note → ℕ
 mark_of n = entry_of n.field + 281474976710656 * n.start
@@ -28,28 +22,24 @@ marks_from p [] s = []
 marks_from p (f ∷ fs) s =
     mark_or (note_of f p (measure f s)) (λ n. marks_from (p + item_length n) fs (drop (item_length n) s)) (map entry_of (f ∷ fs))
 
--- The last of some noted items as one number, and 0 where there is none.
-unfoldable pub last_of : List Note → ℕ
-last_of [] = 0
-last_of (n ∷ []) = step_of (answer (defined.item n.is_null n.lead n.value n.spare))
-last_of (n ∷ m ∷ ns) = last_of (m ∷ ns)
-
--- The answer r of a walk over the fields fs from the place o of the data s on, and the part of a plan that it leaves: an item's refusal, or the place
--- behind the items, and the last of them.
-pub record Through (r : Reached) (o : ℕ) (part : List ℕ) (fs : List Field) (s : List ℕ) : Type 0 where
+-- The walk over the fields fs from the place o of the data s on has come to the place `end` behind the items, and the part of a plan that it leaves.
+pub record Through (end o : ℕ) (part : List ℕ) (fs : List Field) (s : List ℕ) : Type 0 where
   pub notes : List Note
-  pub cut : cut_from o fs (drop o s) ≡ ok (record { notes = notes; end = r.at; rest = drop r.at s })
+  pub cut : cut_from o fs (drop o s) ≡ ok (record { notes = notes; end = end; rest = drop end s })
   pub marked : part ≡ map mark_of notes
-  pub last_is : r.last ≡ last_of notes
 
-pub record MarkedPart (r : Reached) (o : ℕ) (part : List ℕ) (fs : List Field) (s : List ℕ) : Type 0 where
+-- That, or the refusal of an item.
+abbrev pub Answered : code.Result ℕ Refusal → (o : ℕ) (part : List ℕ) → List Field → List ℕ → Type 0
+Answered (Err x) o part fs s = cut_from o fs (drop o s) ≡ refuse (number_of x.reason) x.place
+Answered (Ok end) o part fs s = Through end o part fs s
+
+pub record MarkedPart (r : code.Result ℕ Refusal) (o : ℕ) (part : List ℕ) (fs : List Field) (s : List ℕ) : Type 0 where
   pub marks : part ≡ marks_from o fs (drop o s)
-  pub stops : r.number ≢ 0 → cut_from o fs (drop o s) ≡ refuse r.number r.at
-  pub through : r.number ≡ 0 → Through r o part fs s
+  pub answered : Answered r o part fs s
 
 -- The answer of a walk over the fields fs and the data s, and the plan that it leaves.
-pub record Marked (r : Stop) (plan : List ℕ) (fs : List Field) (s : List ℕ) : Type 0 where
-  pub answered : r ≡ stop_of (walk fs s)
+pub record Marked (r : code.Result (Unit {0}) Refusal) (plan : List ℕ) (fs : List Field) (s : List ℕ) : Type 0 where
+  pub answered : answer r ≡ (walk fs s >>= λ ns. ok tt)
   pub marks : plan ≡ marks_from 0 fs s
 
 -- The item list by a plan's numbers: the count, the block's length, the positions, the ids, and the entries beyond with their old contents.

@@ -1,16 +1,12 @@
 -- Rows to the end: the plan that the walk over them starts from, its answer, and the plan that it leaves.
-use Rattle.std.specs.Prelude.{ℕ, ◌+◌, ◌-◌, ◌%◌, ◌≤◌, ◌<◌, min, ◌≡◌, ◌⊎◌, List, [], ◌++◌, map, length, take, drop}
-use Rattle.fdoca.specs.Basics.{Result, refuse, ok}
+use Rattle.std.specs.Prelude.{ℕ, ◌+◌, ◌-◌, ◌%◌, ◌≤◌, ◌<◌, min, ◌≡◌, ◌⊎◌, List, [], ◌++◌, map, length, take, drop, Result, IfOk}
+use Rattle.fdoca.specs.declared.Refusal.{Refusal}
+use Rattle.fdoca.specs.Basics.{ok, ◌>>=◌}
 use Rattle.fdoca.specs.Item.{Field}
+use Rattle.fdoca.specs.Returned.{answer}
 use Rattle.fdoca.specs.Walk.{Note, rows_from}
 use Rattle.fields.specs.Plan.{entry_of, Planned}
-use Rattle.walks.specs.declared.Passed.{Passed}
 use Rattle.walks.specs.Marks.{mark_of}
-
--- A refusal has its number and place, and count 0; a good block has number 0, place 0, and how many items it has.
-unfoldable pub passed_of : Result (List Note) → Passed
-passed_of (refuse n p) = record { number = n; place = p; count = 0 }
-passed_of (ok ns) = record { number = 0; place = 0; count = length ns }
 
 -- Entries without their marks.
 abbrev pub unmarked : List ℕ → List ℕ
@@ -37,15 +33,11 @@ pub record IsPassPlan (es : List ℕ) (before once : ℕ) : Type 0 where
 
 -- The answer of the walk over the rows from the place o of the data s on, behind `before` items, with room for as many items as the plan es has entries,
 -- and the plan that it leaves.
-unfoldable pub passed_behind : (before : ℕ) → Result (List Note) → Passed
-passed_behind before (refuse n p) = record { number = n; place = p; count = 0 }
-passed_behind before (ok ns) = record { number = 0; place = 0; count = before + length ns }
-
-pub record MarkedPasses (r : Passed) (es plan : List ℕ) (before o : ℕ) (rows : List Field) (s : List ℕ) : Type 0 where
-  pub answered : r ≡ passed_behind before (rows_from (length es - before) o rows [] (drop o s))
+pub record MarkedPasses (r : Result ℕ Refusal) (es plan : List ℕ) (before o : ℕ) (rows : List Field) (s : List ℕ) : Type 0 where
+  pub answered : answer r ≡ (rows_from (length es - before) o rows [] (drop o s) >>= λ ns. ok (before + length ns))
   pub marks : (ns : List Note) → rows_from (length es - before) o rows [] (drop o s) ≡ ok ns → take (before + length ns) plan ≡ take before es ++ map mark_of ns
   pub same_length : length plan ≡ length es
-  pub few : r.count ≤ length es
+  pub few : IfOk r (λ n. n ≤ length es)
 
 -- The numbers es begin with the entries of the fields bs, which stand before the rows, and those of one pass over the rows, as far as there is room.
 pub record RowPlan (es : List ℕ) (before once : ℕ) (bs rows : List Field) : Type 0 where
@@ -64,8 +56,8 @@ pub record IsRowPlan (es : List ℕ) (before once : ℕ) : Type 0 where
 
 -- The answer of the walk over the fields bs and then the rows to the end of the data s, with room for as many items as the plan es has entries, and the
 -- plan that it leaves: in a good block its first entries are the items' marks.
-pub record MarkedRows (r : Passed) (es plan : List ℕ) (bs rows : List Field) (s : List ℕ) : Type 0 where
-  pub answered : r ≡ passed_of (rows_from (length es) 0 rows bs s)
+pub record MarkedRows (r : Result ℕ Refusal) (es plan : List ℕ) (bs rows : List Field) (s : List ℕ) : Type 0 where
+  pub answered : answer r ≡ (rows_from (length es) 0 rows bs s >>= λ ns. ok (length ns))
   pub marks : (ns : List Note) → rows_from (length es) 0 rows bs s ≡ ok ns → take (length ns) plan ≡ map mark_of ns
   pub same_length : length plan ≡ length es
-  pub few : r.count ≤ length es
+  pub few : IfOk r (λ n. n ≤ length es)

@@ -2,39 +2,22 @@
 
 #![tactic(auto)]
 
-ghost use Rattle.std.specs.Prelude.{◌≡◌, ◌+◌, ◌*◌, ◌/◌, ◌≤◌, ◌<◌, List, length, drop};
+ghost use Rattle.std.specs.Prelude.{◌≡◌, ◌+◌, ◌*◌, ◌/◌, ◌≤◌, ◌<◌, List, length, drop, IfOk};
 ghost use Rattle.std.proofs.Math.Seq.{paste};
-ghost use Rattle.fdoca.specs.Basics.{refuse};
 ghost use Rattle.fdoca.specs.Item.{Field};
-ghost use Rattle.terminated.specs.Answer.{answer};
+ghost use Rattle.terminated.specs.Answer.{measured};
 ghost use Rattle.fields.specs.Plan.{Planned};
-ghost use Rattle.walks.specs.Entry.{measure_entry, is_plain, lengths_of, step_of, Stepped};
+ghost use Rattle.walks.specs.Entry.{measure_entry, is_plain, length_of, Inside, Stepped};
 ghost use Rattle.walks.specs.Marks.{MarkedPart, Marked, list_by};
 ghost use Rattle.walks.specs.Finding.{IsPlan, IsMark, FoundBy};
 ghost use Rattle.walks.specs.Passes.{unmarked, Apart, PassPlan, IsPassPlan, MarkedPasses, RowPlan, IsRowPlan, MarkedRows};
 
+use fdoca::{Reason, Refusal};
 use terminated::Measured;
 
-// Where the walk stops: number and place of a refusal, zeros if the block is good.
-#[derive(Drop)]
-pub struct Stop {
-    pub number: u32,
-    pub place: u32,
-}
-
-// Where the walk over rows to the end stops: number and place of a refusal and count 0, or zeros and how many items it took.
-#[derive(Drop)]
-pub struct Passed {
-    pub number: u32,
-    pub place: u32,
-    pub count: usize,
-}
-
-// One item of a good block, or the refusal's number and place.
-#[derive(Drop)]
+// One item of a good block, and its entry in the plan.
+#[derive(Clone, Copy, Debug, PartialEq, Eq)]
 pub struct Found {
-    pub number: u32,
-    pub place: u32,
     pub start: usize,
     pub null: bool,
     pub lead: usize,
@@ -55,20 +38,13 @@ const LAYOUT: u64 = 1099511627776;
 
 const POSITION: u64 = 281474976710656;
 
-// Where the parts of an item as one number begin, behind its length: null mark, lead, spare.
-const NULL: usize = 131072;
-
-const LEAD: usize = 1048576;
-
-const SPARE: usize = 68719476736;
-
-// More than any item as one number.
-const REFUSED: usize = 1152921504606846976;
-
-// The item at a place of the data, by its entry in the plan. It lies within the data.
-pub fn item_at(entry: u64, data: &[u8], at: usize) -> Measured
+// The item at a place of the data, by its entry in the plan, marked or not. It lies within the data. Inlined, since the walk is faster with all of it in its loop.
+#[inline(always)]
+#[tactic(auto, using(crate::proofs::Going::place_ways))]
+pub fn item_at(entry: u64, data: &[u8], at: usize) -> Result<Measured, Reason>
     requires { at ≤ length «data».now }
-    ensures { (result ≡ answer (measure_entry entry (drop at «data».now))) × (at + (result.lead + result.value + result.spare) ≤ length «data».now) }
+    ensures measured { measured result ≡ measure_entry entry (drop at «data».now) }
+    ensures inside { IfOk result (Inside «data».now at) }
 {
     let nullable = 128 <= entry / CODE % 256;
     let layout = (entry / LAYOUT % 4) as u8;
@@ -77,146 +53,97 @@ pub fn item_at(entry: u64, data: &[u8], at: usize) -> Measured
     items::measure(&data[at..], nullable, layout, mode, f)
 }
 
-// The walk's answer, with a place in the data.
-fn stopped(number: u32, at: usize) -> Stop
-    requires { at ≤ 32768 }
-    ensures { result ≡ record { number = number; place = at } }
-{
-    Stop {
-        number: number,
-        place: at as u32,
-    }
-}
-
 // Whether the items of an entry are F bytes without a null indicator.
+#[tactic(auto, unfolding(crate::specs::Entry::is_plain))]
 fn plain(entry: u64) -> bool
     ensures { result ≡ is_plain entry }
 {
-    if 128 <= entry / CODE % 256 {
-        return false;
-    }
-    entry / LAYOUT % 4 == 0
+    entry / CODE % 256 < 128 && entry / LAYOUT % 4 == 0
 }
 
-// An item's three lengths as one number: their sum, the lead and the spare.
-fn lengths(m: Measured) -> usize
-    requires { m.lead + m.value + m.spare ≤ 32768 }
-    ensures { result ≡ lengths_of m }
+// How many bytes an item has.
+fn length_of(item: Measured) -> usize
+    requires { item.lead + item.value + item.spare ≤ 32768 }
+    ensures { result ≡ length_of item }
 {
-    let sum = m.lead + m.value + m.spare;
-    sum + m.lead * LEAD + m.spare * SPARE
+    item.lead + item.value + item.spare
 }
 
-// What was measured as one number: an item's lengths and null mark, or REFUSED and the number of a refusal.
-fn step_of(m: Measured) -> usize
-    requires { m.lead + m.value + m.spare ≤ 32768 }
-    ensures { result ≡ step_of m }
-{
-    if m.number != 0 {
-        return REFUSED + m.number as usize;
-    }
-    if m.null {
-        return lengths(m) + NULL;
-    }
-    lengths(m)
-}
-
-// The item at a place of the data as one number. One of F bytes without a null indicator needs no more than that to be measured.
-fn step_at(entry: u64, data: &[u8], at: usize) -> usize
+// How many bytes the item at a place of the data has. One of F bytes without a null indicator needs no more than that to be measured; it is tested for first,
+// since the walk is faster so.
+#[tactic(auto, using(crate::proofs::Steps::step_ways))]
+fn step_at(entry: u64, data: &[u8], at: usize) -> Result<usize, Reason>
     requires { (at ≤ length «data».now) × (length «data».now ≤ 32768) }
     ensures { Stepped entry «data».now at result }
 {
     if plain(entry) {
         let f = (entry % ID) as usize;
-        return step_of(items::fixed_value(&data[at..], f));
+        return Ok(length_of(items::fixed_value(&data[at..], f)?));
     }
-    step_of(item_at(entry, data, at))
-}
-
-// Where the walk over a part of a plan has come to: the place behind its last item, and that item as one number; or an item's refusal and the
-// item's place.
-#[derive(Drop)]
-pub struct Reached {
-    pub number: u32,
-    pub at: usize,
-    pub last: usize,
-}
-
-fn came_to(number: u32, at: usize, last: usize) -> Reached
-    ensures { result ≡ record { number = number; at = at; last = last } }
-{
-    Reached {
-        number: number,
-        at: at,
-        last: last,
-    }
+    Ok(length_of(item_at(entry, data, at)?))
 }
 
 // The walk over a part of a plan, from a place of the data on. The entry of an item gets its position in the highest 16 bits, up to the item that
-// stops the walk.
-fn mark_part(part: &mut [u64], data: &[u8], from: usize) -> Reached
+// stops the walk. The place behind the items.
+fn mark_part(part: &mut [u64], data: &[u8], from: usize) -> Result<usize, Refusal>
     requires { IsPlan part.old × (from ≤ length «data».now) × (length «data».now ≤ 32768) }
     ensures marked_part { (fs : List Field) → Planned part.old fs → MarkedPart result from part.new fs «data».now }
-    ensures at_in_bounds { result.at ≤ length «data».now }
+    ensures at_in_bounds { IfOk result (λ at. at ≤ length «data».now) }
 {
     let mut at = from;
-    let mut last = 0;
-    let mut k = 0;
-    while k < part.len() {
-        let entry = part[k];
-        last = step_at(entry, data, at);
-        if REFUSED <= last {
-            return came_to((last - REFUSED) as u32, at, 0);
+    for entry in part.iter_mut() {
+        match step_at(*entry, data, at) {
+            Ok(step) => {
+                *entry = *entry % POSITION + at as u64 * POSITION;
+                at += step;
+            }
+            Err(reason) => {
+                return Err(Refusal {
+                    reason,
+                    place: at as u32,
+                });
+            }
         }
-        part[k] = entry % POSITION + at as u64 * POSITION;
-        at += last % 65536;
-        k += 1;
     }
-    came_to(0, at, last)
+    Ok(at)
 }
 
 // The walk over the whole plan and the data.
-pub fn mark(plan: &mut [u64], data: &[u8]) -> Stop
+pub fn mark(plan: &mut [u64], data: &[u8]) -> Result<(), Refusal>
     requires { IsPlan plan.old × (length «data».now ≤ 32768) }
     ensures { (fs : List Field) → Planned plan.old fs → Marked result plan.new fs «data».now }
 {
-    let r = mark_part(plan, data, 0);
-    if r.number != 0 {
-        return stopped(r.number, r.at);
+    let end = mark_part(plan, data, 0)?;
+    if end < data.len() {
+        return Err(Refusal {
+            reason: Reason::Surplus,
+            place: end as u32,
+        });
     }
-    if r.at < data.len() {
-        return stopped(16, r.at);
-    }
-    stopped(0, 0)
-}
-
-// The answer of a walk over rows to the end, with a place in the data.
-fn ended(number: u32, at: usize, count: usize) -> Passed
-    requires { at ≤ 32768 }
-    ensures { result ≡ record { number = number; place = at; count = count } }
-{
-    Passed {
-        number: number,
-        place: at as u32,
-        count: count,
-    }
+    Ok(())
 }
 
 // Copies the first m entries of a pass, which stand from `before` on, to the places from k on, without their marks.
+#[tactic(auto, using(crate::proofs::Passing::copy_ways))]
 fn copy_pass(plan: &mut [u64], before: usize, k: usize, m: usize)
     requires { Apart before m k × (k + m ≤ length plan.old) }
     ensures { plan.new ≡ paste plan.old k (unmarked (drop before plan.old)) m }
 {
-    let mut i = 0;
-    while i < m {
+    // By place: the entries that are read stand in the same slice as those that are written.
+    for i in 0..m {
         plan[k + i] = plan[before + i] % POSITION;
-        i += 1;
     }
 }
 
 // The walk over rows to the end, from a place of the data on, behind the items of the first `before` entries of the plan. The entries of a pass are
 // the next `once`; each pass is marked in its items' own places. The plan's length is the room: the most items that can be.
-fn mark_passes(plan: &mut [u64], before: usize, once: usize, data: &[u8], from: usize) -> Passed
+fn mark_passes(
+    plan: &mut [u64],
+    before: usize,
+    once: usize,
+    data: &[u8],
+    from: usize,
+) -> Result<usize, Refusal>
     requires { IsPassPlan plan.old before once × (length plan.old ≤ 4096) × (once < 4294967296) × (from ≤ length «data».now)
         × (length «data».now ≤ 32768) }
     ensures { (rows : List Field) → PassPlan plan.old before once rows
@@ -224,37 +151,36 @@ fn mark_passes(plan: &mut [u64], before: usize, once: usize, data: &[u8], from: 
 {
     let mut at = from;
     let mut k = before;
-    loop {
-        if at == data.len() {
-            return ended(0, 0, k);
-        }
-        let m = numbers::least(once, plan.len() - k);
+    while at < data.len() {
+        let m = once.min(plan.len() - k);
         copy_pass(plan, before, k, m);
-        let end = k + m;
-        let r = mark_part(&mut plan[k..end], data, at);
-        if r.number != 0 {
-            return ended(r.number, r.at, 0);
-        }
+        let end = mark_part(&mut plan[k..k + m], data, at)?;
         if m < once {
-            return ended(10, r.at, 0);
+            return Err(Refusal {
+                reason: Reason::TooManyItems,
+                place: end as u32,
+            });
         }
-        at = r.at;
-        k = end;
+        at = end;
+        k += m;
     }
+    Ok(k)
 }
 
 // The walk over rows to the end (document 02, Q-5): the fields of the first `before` entries of the plan, and then those of the next `once` over and
-// over.
-pub fn mark_rows(plan: &mut [u64], before: usize, once: usize, data: &[u8]) -> Passed
+// over. How many items it took.
+pub fn mark_rows(
+    plan: &mut [u64],
+    before: usize,
+    once: usize,
+    data: &[u8],
+) -> Result<usize, Refusal>
     requires { IsRowPlan plan.old before once × (length plan.old ≤ 4096) × (once < 4294967296) × (length «data».now ≤ 32768) }
     ensures { (bs rows : List Field) → RowPlan plan.old before once bs rows
         → MarkedRows result plan.old plan.new bs rows «data».now }
 {
-    let first = mark_part(&mut plan[..before], data, 0);
-    if first.number != 0 {
-        return ended(first.number, first.at, 0);
-    }
-    mark_passes(plan, before, once, data, first.at)
+    let at = mark_part(&mut plan[..before], data, 0)?;
+    mark_passes(plan, before, once, data, at)
 }
 
 // The position in a marked entry.
@@ -265,6 +191,7 @@ fn start_in(entry: u64) -> u32
 }
 
 // The item list by a marked plan: the count, the block's length, the positions, the ids.
+#[tactic(auto, using(crate::proofs::Writing::write_ways))]
 pub fn write_list(plan: &[u64], size: usize, list: &mut [u32])
     requires { (2 + 2 * length plan.now ≤ length list.old) × ((length plan.now ≤ 4096) × (size ≤ 32768)) }
     ensures { list.new ≡ list_by plan.now size list.old }
@@ -272,36 +199,26 @@ pub fn write_list(plan: &[u64], size: usize, list: &mut [u32])
     let n = plan.len();
     list[0] = n as u32;
     list[1] = size as u32;
-    let mut k = 0;
-    while k < n {
-        let entry = plan[k];
-        list[2 + k] = start_in(entry);
-        list[2 + n + k] = (entry / ID % 256) as u32;
-        k += 1;
+    // By place: each entry is written at two places of the list.
+    for (k, entry) in plan.iter().enumerate() {
+        list[2 + k] = start_in(*entry);
+        list[2 + n + k] = (*entry / ID % 256) as u32;
     }
 }
 
-// The item of a marked entry in a good block: the walk over that entry alone, from the item's position on, tells its parts.
+// The item of a marked entry in a good block.
 pub fn item_of(marked: u64, data: &[u8]) -> Found
     requires { IsMark «data».now marked × (length «data».now ≤ 32768) }
     ensures { FoundBy «data».now marked result }
 {
     let start = (marked / POSITION) as usize;
-    let entry = marked % POSITION;
-    let mut alone = [entry; 1];
-    let item = mark_part(&mut alone, data, start).last;
-    let lead = item / LEAD % 65536;
-    let spare = item / SPARE % 65536;
-    let behind = item % 65536 - lead;
-    let value = behind - spare;
+    let item = item_at(marked, data, start).unwrap();
     Found {
-        number: 0,
-        place: 0,
-        start: start,
-        null: 1 <= item / NULL % 2,
-        lead: lead,
-        value: value,
-        spare: spare,
-        entry: entry,
+        start,
+        null: item.null,
+        lead: item.lead,
+        value: item.value,
+        spare: item.spare,
+        entry: marked % POSITION,
     }
 }

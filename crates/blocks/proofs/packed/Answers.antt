@@ -1,17 +1,21 @@
+use Rattle.std.proofs.lemmas.Result.{err_from_is_err_and}
 use Rattle.blocks.proofs.Decimals.{packed_refused, packed_other, packed_null, is_packing, packed_value}
 use Rattle.blocks.proofs.packed.Goals as goal
 
-pub returns-then-found-ne0 : goal.returns-then-found-ne0
-returns-then-found-ne0 c = search (packed_refused)
+pub returns-in_err-found : goal.returns-in_err-found
+returns-in_err-found c =
+    let p = err_from_is_err_and c.from_residual.result c.from_residual.ensures.1 in
+    let k = c.in_err-found.ensures in
+    rw (p.1, p.2) (search (packed_refused))
 
-pub returns-then-plain-ne-PACKED : goal.returns-then-plain-ne-PACKED
-returns-then-plain-ne-PACKED c = search (packed_other)
+pub returns-then-ne : goal.returns-then-ne
+returns-then-ne c = let k = c.in_ok-found.ensures in let m = c.if-ne.ensures in search (packed_other)
 
 pub returns-then-found : goal.returns-then-found
-returns-then-found c = search (packed_null)
+returns-then-found c = let k = c.in_ok-found.ensures in let m = c.if-ne.ensures in search (packed_null)
 
 pub unpacked-requires : goal.unpacked-requires
-unpacked-requires c = search (is_packing)
+unpacked-requires c = let k = c.in_ok-found.ensures in let m = c.if-ne.ensures in search (is_packing)
 
 pub returns : goal.returns
-returns c = search (packed_value)
+returns c = let k = c.in_ok-found.ensures in let m = c.if-ne.ensures in search (packed_value)

@@ -1,15 +1,21 @@
-use Rattle.descriptors.proofs.Stepping.{sda_refused, judged_length, judged_good, judged_count, judged_shape, judged_id, sda_put}
-use borrow.Author.Rules.{rules}
+use mathlib.Core.Path.{refl}
+use Rattle.std.proofs.lemmas.Result.{err_from_is_err_and}
 use Rattle.descriptors.proofs.sda_step.Goals as goal
 
-pub returns-then-judged-ne0 : goal.returns-then-judged-ne0
-returns-then-judged-ne0 c = search (sda_refused)
-
-pub put_sda-requires : goal.put_sda-requires
-put_sda-requires c = search (rules, judged_length, judged_good, judged_count, judged_shape)
-
-pub bounds-t-2 : goal.bounds-t-2
-bounds-t-2 c = search (judged_id)
+pub returns-in_err-judged : goal.returns-in_err-judged
+returns-in_err-judged c =
+    let e = err_from_is_err_and c.from_residual.result c.from_residual.ensures.1 in
+    rw (e.1, e.2) (λ es a. c.in_err-judged.ensures.refuses _ _ _ es a)
 
 pub returns : goal.returns
-returns c = search (sda_put)
+returns c =
+    let y = c.in_ok-judged.ensures in
+    record {
+      accepted = λ es a. y.accepts _ _ _ es a;
+      puts = c.put_sda.ensures;
+      good = y.good;
+      no_row = refl;
+      same_id = refl;
+      counted = y.count;
+      small = y.small;
+    }

@@ -1,19 +1,13 @@
+use borrow.Author.Rules.{rules}
 use Rattle.fdoca.proofs.Tests.{tests}
 use Rattle.field_types.specs.Parameters.{unused_zero}
 use Rattle.field_types.proofs.unused_zero.Goals as goal
+use Rattle.field_types.proofs.unused_zero.Goals.{then-ps-eq0, else-ps-eq0}
 
-pub returns-then-ps-ne0 : goal.returns-then-ps-ne0
+pub returns-then-ps-eq0-2 : goal.returns-then-ps-eq0-2
 unfolding unused_zero
-returns-then-ps-ne0 c = search tests
+returns-then-ps-eq0-2 c = elim c.if-ps-eq0.branch [ then-ps-eq0 w ↦ search (rules, tests) | else-ps-eq0 w ↦ search (rules, tests) ]
 
-pub returns-then-ps-ne0-2 : goal.returns-then-ps-ne0-2
+pub returns-else-ps-eq0-2 : goal.returns-else-ps-eq0-2
 unfolding unused_zero
-returns-then-ps-ne0-2 c = search tests
-
-pub returns-then-ps-ne0-3 : goal.returns-then-ps-ne0-3
-unfolding unused_zero
-returns-then-ps-ne0-3 c = search tests
-
-pub returns : goal.returns
-unfolding unused_zero
-returns c = search tests
+returns-else-ps-eq0-2 c = elim c.if-ps-eq0.branch [ then-ps-eq0 w ↦ search (rules, tests) | else-ps-eq0 w ↦ search (rules, tests) ]

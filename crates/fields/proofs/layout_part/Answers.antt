@@ -1,12 +1,9 @@
-use Rattle.fdoca.proofs.Tests.{tests}
-use Rattle.fields.proofs.Parts.{digits_way}
-use Rattle.fields.specs.Parts.{layout_part}
-use borrow.Author.Rules.{rules}
+use native.Mathlib.Omega.{arith}
+use Rattle.fields.proofs.Parts.{digits_layout, other_layout}
 use Rattle.fields.proofs.layout_part.Goals as goal
 
-pub returns-then-layout-eq-DIGITS : goal.returns-then-layout-eq-DIGITS
-returns-then-layout-eq-DIGITS c = digits_way _ _ (search rules)
+pub returns-then-layout-number : goal.returns-then-layout-number
+returns-then-layout-number c = digits_layout _ _ _ c.number.ensures c.if-layout-number.true
 
 pub returns : goal.returns
-unfolding layout_part
-returns c = search (rules, tests)
+returns c = other_layout _ _ _ c.number.ensures _ c.if-layout-number.false c.from.ensures (omega arith)

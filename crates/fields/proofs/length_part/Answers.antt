@@ -1,12 +1,8 @@
-use Rattle.fdoca.proofs.Tests.{tests}
-use Rattle.fields.specs.Parts.{length_part}
-use borrow.Author.Rules.{rules}
+use Rattle.fields.proofs.Parts.{digits_length, other_length}
 use Rattle.fields.proofs.length_part.Goals as goal
 
-pub returns-then-layout-eq-DIGITS : goal.returns-then-layout-eq-DIGITS
-unfolding length_part
-returns-then-layout-eq-DIGITS c = search (rules, tests)
+pub returns-then-layout-number : goal.returns-then-layout-number
+returns-then-layout-number c = digits_length _ _ _ c.number.ensures c.requires c.if-layout-number.true
 
 pub returns : goal.returns
-unfolding length_part
-returns c = search (rules, tests)
+returns c = other_length _ _ _ c.number.ensures c.requires c.if-layout-number.false

@@ -5,5 +5,5 @@ use Rattle.numbers.proofs.digit.Goals as goal
 pub returns-then-reversed : goal.returns-then-reversed
 returns-then-reversed c = search (rules, digit_back)
 
-pub returns : goal.returns
-returns c = search (rules, digit_front)
+pub returns-else-reversed : goal.returns-else-reversed
+returns-else-reversed c = search (rules, digit_front)

@@ -1,12 +1,9 @@
+use Rattle.numbers.proofs.Sign.{half_room, half_times}
 use borrow.Author.Rules.{rules}
-use Rattle.numbers.proofs.Sign.{half_more, half_room, half_all}
 use Rattle.numbers.proofs.half_of.Goals as goal
 
-pub overflow_mul-h : goal.overflow_mul-h
-overflow_mul-h c = search (rules, half_room)
+pub pow-requires : goal.pow-requires
+pow-requires c = search (rules, half_room)
 
-pub loop-i-preserved : goal.loop-i-preserved
-loop-i-preserved c = search (rules, half_more)
-
-pub returns : goal.returns
-returns c = search (rules, half_all)
+pub overflow_mul-result : goal.overflow_mul-result
+overflow_mul-result c = search (rules, half_times)

@@ -1,10 +1,7 @@
 -- `plans::copies` meets its contract.
 -- Assumes nothing.
-use Rattle.plans.proofs.Stores.{none_stored, copied_more, copied}
+use Rattle.plans.proofs.Stores.{copied_more, copied}
 use Rattle.plans.proofs.copies.Goals as goal
-
-pub loop-k-init : goal.loop-k-init
-loop-k-init c = search none_stored
 
 pub loop-k-preserved : goal.loop-k-preserved
 loop-k-preserved c = search copied_more

@@ -1,19 +1,16 @@
 -- `plans::write` meets its contract.
 -- Assumes nothing.
-use Rattle.plans.proofs.Referred.{top_fits, top_made, top_room, top_written, all_room, all_written}
+use Rattle.plans.proofs.Referred.{marked_is, top_made, top_room, top_written, all_room, all_written}
 use Rattle.plans.proofs.write.Goals as goal
 
-pub overflow_cast-starts : goal.overflow_cast-starts
-overflow_cast-starts c = search top_fits
-
 pub expand-requires : goal.expand-requires
-expand-requires c = search (top_made, top_room)
+expand-requires c = let none = c.in-None.ensures in search (top_made, top_room)
 
 pub fill-requires : goal.fill-requires
-fill-requires c = search all_room
+fill-requires c = let some = c.in-Some.ensures in let marked = marked_is some in search all_room
 
-pub returns-then-entry-eq0 : goal.returns-then-entry-eq0
-returns-then-entry-eq0 c = search top_written
+pub returns-in-Some : goal.returns-in-Some
+returns-in-Some c = let some = c.in-Some.ensures in let marked = marked_is some in search all_written
 
-pub returns-else-entry-eq0 : goal.returns-else-entry-eq0
-returns-else-entry-eq0 c = search all_written
+pub returns-in-None : goal.returns-in-None
+returns-in-None c = let none = c.in-None.ensures in search top_written

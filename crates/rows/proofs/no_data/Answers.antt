@@ -4,10 +4,10 @@ use Rattle.fdoca.proofs.Tests.{tests}
 use Rattle.rows.specs.Pass.{no_data}
 use Rattle.rows.proofs.no_data.Goals as goal
 
-pub returns-then-entry-ne1 : goal.returns-then-entry-ne1
+pub returns-then-entry-eq1 : goal.returns-then-entry-eq1
 unfolding no_data
-returns-then-entry-ne1 c = search tests
+returns-then-entry-eq1 c = search tests
 
-pub returns : goal.returns
+pub returns-else-entry-eq1 : goal.returns-else-entry-eq1
 unfolding no_data
-returns c = search tests
+returns-else-entry-eq1 c = search tests

@@ -1,11 +1,10 @@
 -- `rows::write` meets its contract.
 -- Assumes nothing.
+use native.Mathlib.Omega.{arith}
 use borrow.Author.Rules.{rules}
-use Rattle.rows.proofs.Passing.{nothing_before, moved_behind}
+use Rattle.rows.proofs.Stores.{moved}
+use Rattle.rows.proofs.Passing.{moved_behind}
 use Rattle.rows.proofs.write.Goals as goal
 
-pub returns-then-before-eq0 : goal.returns-then-before-eq0
-returns-then-before-eq0 c = search (rules, nothing_before)
-
-pub returns : goal.returns
-returns c = search (rules, moved_behind)
+pub returns-clause-plan_after : goal.returns-clause-plan_after
+returns-clause-plan_after c = let behind = moved c.pass-n.new.plan c.copy_within.new.self c.min-kept.result c.args.before (omega arith) c.copy_within.ensures.after in search (rules, moved_behind)

@@ -1,13 +1,11 @@
 -- `terminated::first_zero` meets its contract. The invariant: none of the `i` bytes that were passed is zero.
 -- Assumes nothing.
-use Prim.Native.Nat.{◌≤◌, ◌+◌, ◌-◌}
-use mathlib.Core.Path.{◌≡◌}
-use lib.ListN.{length, drop}
-use Rattle.fdoca.specs.Item.{before_zero}
+use Rattle.std.proofs.Common.{◌≤◌, ◌+◌, ◌-◌, ◌≡◌, ◌==◌, length, drop}
+use Rattle.std.specs.List.{position_or_len}
 use Rattle.terminated.proofs.first_zero.Given as goal
 
 abbrev pub invariant-loop-i : goal.invariant-loop-i
-invariant-loop-i l = (l.i ≤ length l.s) × (before_zero l.s ≡ l.i + before_zero (drop l.i l.s))
+invariant-loop-i l = (l.i ≤ length l.s) × (position_or_len (λ b. b == 0) l.s ≡ l.i + position_or_len (λ b. b == 0) (drop l.i l.s))
 
 abbrev pub decreases-loop-i : goal.decreases-loop-i
 decreases-loop-i l = length l.s - l.i

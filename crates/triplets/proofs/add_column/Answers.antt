@@ -1,17 +1,8 @@
-use Rattle.triplets.proofs.Sums.{column_row, column_extents, column_unsuited, column_added}
-use borrow.Author.Tests.{not-true, not-false}
+use Rattle.triplets.proofs.Sums.{misfit, one_column}
 use Rattle.triplets.proofs.add_column.Goals as goal
 
-ruleset ways = (column_row, column_extents, column_unsuited, column_added)
-
-pub returns-then-entry-eq0 : goal.returns-then-entry-eq0
-returns-then-entry-eq0 c = search ways
-
-pub returns-then-lower-ne0 : goal.returns-then-lower-ne0
-returns-then-lower-ne0 c = search ways
-
-pub returns-then-not-good_length : goal.returns-then-not-good_length
-returns-then-not-good_length c = search (ways, not-true)
+pub returns-then-not-fits : goal.returns-then-not-fits
+returns-then-not-fits c ends = misfit _ _ _ ends c.if-not-fits.ensures
 
 pub returns : goal.returns
-returns c = search (ways, not-false)
+returns c ends = rw c.plus.ensures (one_column _ _ _ ends c.if-not-fits.ensures)

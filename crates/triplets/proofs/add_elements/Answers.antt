@@ -1,25 +1,18 @@
-use Rattle.triplets.proofs.Sums.{some_times, group_rows, group_all, group_none, group_some, all_fits, some_fits}
+use Rattle.std.proofs.Common.{◌≡◌, None, Some, Err, arith}
+use Rattle.std.proofs.lemmas.Result.{err_from_is_err_and}
+use Rattle.fdoca.specs.declared.Reason.TheVariants.{NotCarried}
+use Rattle.triplets.proofs.Sums.{none_taken, some_taken, carried}
 use Rattle.triplets.proofs.add_elements.Goals as goal
 
-ruleset ways = (some_times, group_rows, group_all, group_none, group_some)
-
-pub returns-then-factor-eq0 : goal.returns-then-factor-eq0
-returns-then-factor-eq0 c = search ways
-
-pub overflow_mul-times : goal.overflow_mul-times
-overflow_mul-times c = search (all_fits)
-
-pub returns-then-taken-eq0 : goal.returns-then-taken-eq0
-returns-then-taken-eq0 c = search ways
-
-pub overflow_mul-part : goal.overflow_mul-part
-overflow_mul-part c = search (all_fits)
-
-pub returns-then-lower-eq0 : goal.returns-then-lower-eq0
-returns-then-lower-eq0 c = search ways
-
-pub overflow_mul-times-2 : goal.overflow_mul-times-2
-overflow_mul-times-2 c = search (some_fits)
+pub returns-in_err-items : goal.returns-in_err-items
+returns-in_err-items c =
+    let none : c.items_taken.result ≡ None = grind arith in
+    let p = err_from_is_err_and c.from_residual.result c.from_residual.ensures.1 in
+    let refused : c.ok_or.result ≡ Err p.0 = rw p.2 c.in_err-items.was in
+    let same : p.0 ≡ NotCarried = grind arith in
+    rw (p.1, same) (none_taken _ _ _ _ (carried _ _ c.if-group-eq0.false) (rw none at c.items_taken.ensures))
 
 pub returns : goal.returns
-returns c = search ways
+returns c =
+    let some : c.items_taken.result ≡ Some c.in_ok-items.items = grind arith in
+    rw (c.plus.ensures, c.from.ensures) (some_taken _ _ _ _ (carried _ _ c.if-group-eq0.false) _ (rw some at c.items_taken.ensures))

@@ -1,10 +1,10 @@
+use Rattle.std.proofs.Common.{length}
+use Rattle.plans.specs.Tied.{kind_of}
 use Rattle.triplets.proofs.Groups.{Adding}
-use Prim.Native.Nat.{◌-◌}
-use lib.ListN.{length}
 use Rattle.triplets.proofs.add_groups.Given as goal
 
-abbrev pub invariant-loop-g : goal.invariant-loop-g
-invariant-loop-g l = Adding l.head l.last l.t l.starts l.sizes l.entries l.sum l.end l.n l.g
+abbrev pub invariant-loop-groups : goal.invariant-loop-groups
+invariant-loop-groups g l = Adding (kind_of g.row.HEAD) l.last l.t l.tables l.fn.sum l.n l.groups
 
-abbrev pub decreases-loop-g : goal.decreases-loop-g
-decreases-loop-g l = length l.t - l.g
+abbrev pub decreases-loop-groups : goal.decreases-loop-groups
+decreases-loop-groups g l = length l.groups

@@ -1,17 +1,11 @@
-use Rattle.triplets.proofs.Sums.{at_the_end, group_none, not_at_the_end, rows_all, rows_some}
-use borrow.Author.Tests.{not-true, not-false}
+use Rattle.triplets.proofs.Sums.{too_early, none_taken, rows_taken}
 use Rattle.triplets.proofs.add_rows.Goals as goal
 
-ruleset ways = (at_the_end, group_none, not_at_the_end, rows_all, rows_some, not-true, not-false)
-
 pub returns-then-not-ends : goal.returns-then-not-ends
-returns-then-not-ends c = search ways
+returns-then-not-ends c zero = too_early _ _ _ _ c.if-not-ends.true zero
 
-pub returns-then-taken-eq0 : goal.returns-then-taken-eq0
-returns-then-taken-eq0 c = search ways
+pub returns-in-Some : goal.returns-in-Some
+returns-in-Some c zero = rw c.plus.ensures (rows_taken _ _ _ _ (rw (c.if-not-ends.false, zero)) _ zero c.in-Some.ensures)
 
-pub returns-then-product-eq0 : goal.returns-then-product-eq0
-returns-then-product-eq0 c = search ways
-
-pub returns : goal.returns
-returns c = search ways
+pub returns-in-None : goal.returns-in-None
+returns-in-None c zero = none_taken _ _ _ _ (rw (c.if-not-ends.false, zero)) c.in-None.ensures

@@ -1,26 +1,30 @@
 -- `walks::mark_passes` meets its contract.
 -- Assumes nothing.
-use borrow.Author.Rules.{rules}
-use Rattle.walks.proofs.Passing.{pass_start, copy_apart, copy_fits, part_is_plan, pass_stop, pass_full, pass_more, pass_good}
+use Rattle.std.proofs.Common.{rules, refl, arith}
+use Rattle.std.proofs.lemmas.Result.{err_from_is_err_and}
+use Rattle.walks.proofs.Passing.{pass_start, part_is_plan, pass_stop, pass_full, pass_more, pass_good}
 use Rattle.walks.proofs.mark_passes.Goals as goal
 
 pub loop-at-init : goal.loop-at-init
 loop-at-init c = search pass_start
 
-pub returns-then-at-data : goal.returns-then-at-data
-returns-then-at-data c = λ rows f. search pass_good
+pub mark_part-requires : goal.mark_part-requires
+mark_part-requires c = search (rules, part_is_plan)
 
-pub copy_pass-requires : goal.copy_pass-requires
-copy_pass-requires c = (search copy_apart, search copy_fits)
-
-pub mark_part-r-requires : goal.mark_part-r-requires
-mark_part-r-requires c = search (rules, part_is_plan)
-
-pub returns-then-r-ne0 : goal.returns-then-r-ne0
-returns-then-r-ne0 c = λ rows f. search pass_stop
+pub returns-in_err-end : goal.returns-in_err-end
+returns-in_err-end c = λ rows f.
+    let p = err_from_is_err_and c.from_residual.result c.from_residual.ensures.1 in
+    rw (p.1, p.2)
+    (pass_stop _ _ _ _ _ _ _ _ _ _ _ c.loop-at.invariant (omega arith) c.copy_pass.ensures refl c.loop-at-test.true _ _ c.in_err-end.ensures.marked_part rows f)
 
 pub returns-then-m-once : goal.returns-then-m-once
-returns-then-m-once c = λ rows f. search pass_full
+returns-then-m-once c = λ rows f.
+    pass_full _ _ _ _ _ _ _ _ _ _ _ c.loop-at.invariant (omega arith) c.copy_pass.ensures refl c.loop-at-test.true _ _ c.in_ok-end.ensures.marked_part c.if-m-once.true rows f
 
 pub loop-at-preserved : goal.loop-at-preserved
-loop-at-preserved c = search pass_more
+loop-at-preserved c =
+    pass_more _ _ _ _ _ _ _ _ _ _ _ c.loop-at.invariant (omega arith) c.copy_pass.ensures refl c.loop-at-test.true _ _ c.in_ok-end.ensures.marked_part c.requires.0 c.if-m-once.false
+    c.in_ok-end.ensures.at_in_bounds
+
+pub returns : goal.returns
+returns c = λ rows f. search (rules, pass_good)

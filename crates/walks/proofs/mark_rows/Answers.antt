@@ -1,27 +1,23 @@
 -- `walks::mark_rows` meets its contract.
 -- Assumes nothing.
-use borrow.Author.Rules.{rules}
-use Rattle.walks.proofs.Rows.{before_counted, before_is_plan, first_stop, passes_asked, after_fits, rows_marked}
+use Rattle.std.proofs.Common.{rules}
+use Rattle.std.proofs.lemmas.Result.{err_from_is_err_and}
+use Rattle.walks.proofs.Rows.{before_is_plan, first_stop, passes_asked, after_fits, rows_marked}
 use Rattle.walks.proofs.mark_rows.Goals as goal
 
-pub slice_bounds-mark_part-end-2 : goal.slice_bounds-mark_part-end-2
-slice_bounds-mark_part-end-2 c = search before_counted
+pub mark_part-requires : goal.mark_part-requires
+mark_part-requires c = search (rules, before_is_plan)
 
-pub mark_part-first-requires : goal.mark_part-first-requires
-mark_part-first-requires c = search (rules, before_is_plan)
-
-pub returns-then-first-ne0 : goal.returns-then-first-ne0
-returns-then-first-ne0 c = λ bs rows f. search first_stop
+pub returns-in_err-at : goal.returns-in_err-at
+returns-in_err-at c = λ bs rows f.
+    let p = err_from_is_err_and c.from_residual.result c.from_residual.ensures.1 in
+    rw (p.1, p.2) (first_stop _ _ _ _ _ _ c.in_err-at.ensures.marked_part bs rows f)
 
 pub mark_passes-requires : goal.mark_passes-requires
 mark_passes-requires c =
-    let p = c.mark_part-first.ensures.marked_part in
+    let part = c.in_ok-at.ensures.marked_part in
     let pre = c.requires in
-    let z = c.if-first-ne0.false in
-    (passes_asked _ _ _ _ _ _ p pre.0 z, after_fits _ _ _ _ _ _ p pre.0 pre.1, search rules, search rules, search rules)
+    (passes_asked _ _ _ _ _ _ part pre.0, after_fits _ _ _ _ _ _ part pre.0 pre.1, search rules, search rules, search rules)
 
 pub returns : goal.returns
-returns c =
-    let p = c.mark_part-first.ensures.marked_part in
-    let z = c.if-first-ne0.false in
-    rows_marked _ _ _ _ _ _ p z _ _ c.mark_passes.ensures
+returns c = rows_marked _ _ _ _ _ _ c.in_ok-at.ensures.marked_part _ _ c.mark_passes.ensures

@@ -1,0 +1,11 @@
+use mathlib.Core.Path.{◌≡◌}
+use Prim.Native.Nat.{◌+◌, ◌-◌, ◌*◌, ◌^◌, ◌≤◌, ◌<◌}
+use Rattle.floats.specs.Scaled.{units_of}
+use Rattle.floats.proofs.Scaled.shifted_right.Given as goal
+
+abbrev pub invariant-loop-shifted : goal.invariant-loop-shifted
+invariant-loop-shifted l =
+    (units_of l.shifted ≡ units_of l.fn.self) × (l.fn.self.power ≤ l.shifted.power) × (l.shifted.significand + (l.shifted.power - l.fn.self.power) * 2 ^ 52 < 2 ^ 56)
+
+abbrev pub decreases-loop-shifted : goal.decreases-loop-shifted
+decreases-loop-shifted l = l.shifted.significand

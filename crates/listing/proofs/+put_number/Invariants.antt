@@ -1,5 +1,0 @@
--- A call gets the tens of the number.
-use Rattle.listing.proofs.+put_number.Given as goal
-
-abbrev pub decreases-put_number : goal.decreases-put_number
-decreases-put_number l = l.n

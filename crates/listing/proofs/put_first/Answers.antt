@@ -1,8 +1,0 @@
--- `listing::put_first` meets its contract.
--- Assumes nothing.
-use borrow.Author.Rules.{rules}
-use Rattle.listing.proofs.Words.{first_put}
-use Rattle.listing.proofs.put_first.Goals as goal
-
-pub returns : goal.returns
-returns c = (search first_put, search rules)

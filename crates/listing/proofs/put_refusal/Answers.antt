@@ -1,8 +1,0 @@
--- `listing::put_refusal` meets its contract.
--- Assumes nothing.
-use borrow.Author.Rules.{rules}
-use Rattle.listing.proofs.Words.{refusal_put}
-use Rattle.listing.proofs.put_refusal.Goals as goal
-
-pub returns : goal.returns
-returns c = (search refusal_put, search rules)
