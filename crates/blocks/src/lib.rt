@@ -5,8 +5,7 @@
 
 ghost use Rattle.std.specs.Prelude.{◌≡◌, ◌+◌, ◌≤◌, not, ◌&&◌, length, IfOk};
 ghost use Rattle.fdoca.specs.Calls as calls;
-ghost use Rattle.fdoca.specs.Calls.{item_at, state_of, whole_number, whole_answer, decimal_answer};
-ghost use Rattle.fdoca.specs.Returned.{returned};
+ghost use Rattle.fdoca.specs.Calls.{item_at, state_of, whole_number, whole_answer, decimal_answer, value_answer};
 ghost use Rattle.descriptors.specs.Holds.{Ready};
 ghost use Rattle.cuts.specs.Cut.{Fitting};
 ghost use Rattle.blocks.specs.Answers.{items_into, ListedAs};
@@ -236,7 +235,7 @@ const BIAS: u64 = 549755813888;
 
 // Reads an item's value, whatever numeric type it has: null, a whole number or a 64-bit float of exactly equal value.
 pub fn value(descriptor: &[u8], data: &[u8], item: u32) -> Result<Value, Refusal>
-    ensures { result ≡ returned (calls.value descriptor.now «data».now item) }
+    ensures { result ≡ value_answer (calls.value descriptor.now «data».now item) }
 {
     let found = lookups::find(descriptor, data, item)?;
     let code = (found.entry / CODE % 256) as u8;

@@ -5,7 +5,7 @@
 ghost use Rattle.std.specs.Prelude.{◌≡◌, ◌+◌, ◌-◌, ◌≤◌, ◌<◌, ◌&&◌, length, get_or, replicate, IfSome};
 ghost use Rattle.fdoca.specs.Check.{check};
 ghost use Rattle.fdoca.specs.Unfolding.{endless};
-ghost use Rattle.fdoca.specs.Returned.{returned};
+ghost use Rattle.fdoca.specs.Calls.{checked};
 ghost use Rattle.rows.specs.Pass.{pass_list};
 ghost use Rattle.descriptors.specs.Holds.{MakesSame, Held, ClosedRow, SteppedSDA, SteppedRow, SteppedCPT, Advanced, to_the_end, last_byte, Repeating, Examination};
 
@@ -208,7 +208,7 @@ pub fn examine(desc: &[u8], tables: &mut Tables) -> Result<Examined, Refusal>
 
 // Checks a descriptor: how many items it describes, or the first reason to refuse it.
 pub fn check(descriptor: &[u8]) -> Result<u32, Refusal>
-    ensures { result ≡ returned (check descriptor.now) }
+    ensures { result ≡ checked (check descriptor.now) }
 {
     let mut tables = Tables::new();
     let examined = examine(descriptor, &mut tables)?;

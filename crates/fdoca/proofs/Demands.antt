@@ -29,7 +29,7 @@ use Rattle.fdoca.specs.Unfolding.{fields_added, field_of, unfolded, repeated}
 use Rattle.fdoca.specs.Unfolding as U
 use Rattle.fdoca.specs.Account.{NonZero, Item, Parts, Block, Packed}
 use Rattle.fdoca.specs.Calls as calls
-use Rattle.fdoca.specs.Calls.{max_data, oversize, item_list, small, list, item_at, value_of, whole_of, whole_number, packed, entries_after, state_by, state_of, lent, number_given, Reading, whole, float, reading_of, ordered, signed, read_by}
+use Rattle.fdoca.specs.Calls.{max_data, oversize, item_list, small, list, item_at, value_of, whole_of, whole_number, packed, entries_after, state_by, state_of, lent, number_given, given_state, Reading, whole, float, reading_of, ordered, signed, read_by}
 use Rattle.fdoca.specs.Returned.{returned, answer}
 use Rattle.fdoca.specs.Packed.{packed_number}
 use Rattle.fdoca.specs.Float as float_specs
@@ -234,8 +234,10 @@ module _ (d s : List ℕ) (n : ℕ) (accepts : check d ≡ ok n) (few : length s
 
   -- what the state call says where the walk stops, and where it does not
   states_stop_by : (m p : ℕ) → walk_by (unfolded d) (repeated d) s ≡ refuse m p → (k : ℕ)
-      → (answer (state_of (item_at d s k)) ≡ refuse m p) × (lent s (item_at d s k) ≡ [])
-  states_stop_by m p e k = let q : item_at d s k ≡ refuse m p = rw (item_walks k, e) in (state_refused d s k m p q, rw q)
+      → (answer (state_of (item_at d s k)) ≡ refuse m p)
+      × (given_state (item_at d s k) ≡ record { number = m; place = p; null = false; code = 0; lead = 0; value = 0; spare = 0 })
+      × (lent s (item_at d s k) ≡ [])
+  states_stop_by m p e k = let q : item_at d s k ≡ refuse m p = rw (item_walks k, e) in (state_refused d s k m p q, rw q, rw q)
 
   state_holds_by : (ns : List Note) → walk_by (unfolded d) (repeated d) s ≡ ok ns → (k : ℕ) → k < length ns
       → (i : Note) × (get_elem? ns k ≡ some i)
@@ -250,8 +252,10 @@ module _ (d s : List ℕ) (n : ℕ) (accepts : check d ≡ ok n) (few : length s
   reads_stop m p e k = (rw (item_walks k, e), rw (item_walks k, e), rw (item_walks k, e))
 
   no_more_states_by : (ns : List Note) → walk_by (unfolded d) (repeated d) s ≡ ok ns → (k : ℕ) → length ns ≤ k
-      → (answer (state_of (item_at d s k)) ≡ refuse 17 0) × (lent s (item_at d s k) ≡ [])
-  no_more_states_by ns e k h = let q : item_at d s k ≡ refuse 17 0 = rw (item_walks k, e, past_end ns k h) in (state_refused d s k 17 0 q, rw q)
+      → (answer (state_of (item_at d s k)) ≡ refuse 17 0)
+      × (given_state (item_at d s k) ≡ record { number = 17; place = 0; null = false; code = 0; lead = 0; value = 0; spare = 0 })
+      × (lent s (item_at d s k) ≡ [])
+  no_more_states_by ns e k h = let q : item_at d s k ≡ refuse 17 0 = rw (item_walks k, e, past_end ns k h) in (state_refused d s k 17 0 q, rw q, rw q)
 
   -- WITHOUT ROWS TO THE END
   module _ (plain : repeated d ≡ none) where
@@ -273,7 +277,10 @@ module _ (d s : List ℕ) (n : ℕ) (accepts : check d ≡ ok n) (few : length s
       pub list_stops : (old : List ℕ) → 2 + 2 * n ≤ length old → (list d s old ≡ refuse m p) × (entries_after old (list d s old) ≡ old)
       list_stops old room = (rw (list_walks old room, e), rw (list_walks old room, e))
 
-      pub states_stop : (k : ℕ) → (answer (state_of (item_at d s k)) ≡ refuse m p) × (lent s (item_at d s k) ≡ [])
+      pub states_stop : (k : ℕ)
+          → (answer (state_of (item_at d s k)) ≡ refuse m p)
+          × (given_state (item_at d s k) ≡ record { number = m; place = p; null = false; code = 0; lead = 0; value = 0; spare = 0 })
+          × (lent s (item_at d s k) ≡ [])
       states_stop k = states_stop_by m p (walks_unfolding ∙ e) k
 
     module _ (ns : List Note) (e : walk (unfolded d) s ≡ ok ns) where
@@ -290,7 +297,9 @@ module _ (d s : List ℕ) (n : ℕ) (accepts : check d ≡ ok n) (few : length s
 
       -- and from n on there is no such item.
       pub no_more_states : (k : ℕ) → n ≤ k
-          → (answer (state_of (item_at d s k)) ≡ refuse 17 0) × (lent s (item_at d s k) ≡ [])
+          → (answer (state_of (item_at d s k)) ≡ refuse 17 0)
+          × (given_state (item_at d s k) ≡ record { number = 17; place = 0; null = false; code = 0; lead = 0; value = 0; spare = 0 })
+          × (lent s (item_at d s k) ≡ [])
       no_more_states k h = no_more_states_by ns (walks_unfolding ∙ e) k (omega (arith, items_noted d s n ns accepts e))
 
   -- WITH ROWS TO THE END
@@ -316,7 +325,10 @@ module _ (d s : List ℕ) (n : ℕ) (accepts : check d ≡ ok n) (few : length s
       pub rows_list_stops : (old : List ℕ) → (list d s old ≡ refuse m p) × (entries_after old (list d s old) ≡ old)
       rows_list_stops old = (rw (list_walks_rows old, e), rw (list_walks_rows old, e))
 
-      pub rows_states_stop : (k : ℕ) → (answer (state_of (item_at d s k)) ≡ refuse m p) × (lent s (item_at d s k) ≡ [])
+      pub rows_states_stop : (k : ℕ)
+          → (answer (state_of (item_at d s k)) ≡ refuse m p)
+          × (given_state (item_at d s k) ≡ record { number = m; place = p; null = false; code = 0; lead = 0; value = 0; spare = 0 })
+          × (lent s (item_at d s k) ≡ [])
       rows_states_stop k = states_stop_by m p (walks_rows ∙ e) k
 
     module _ (ns : List Note) (e : walk_rows (unfolded d) rows s ≡ ok ns) where
@@ -363,7 +375,9 @@ module _ (d s : List ℕ) (n : ℕ) (accepts : check d ≡ ok n) (few : length s
       rows_state_holds k h = state_holds_by ns (walks_rows ∙ e) k h
 
       pub no_more_rows : (k : ℕ) → length ns ≤ k
-          → (answer (state_of (item_at d s k)) ≡ refuse 17 0) × (lent s (item_at d s k) ≡ [])
+          → (answer (state_of (item_at d s k)) ≡ refuse 17 0)
+          × (given_state (item_at d s k) ≡ record { number = 17; place = 0; null = false; code = 0; lead = 0; value = 0; spare = 0 })
+          × (lent s (item_at d s k) ≡ [])
       no_more_rows k h = no_more_states_by ns (walks_rows ∙ e) k h
 
 -- THE THREE PARTS OF AN ITEM (Q-6)
@@ -381,6 +395,20 @@ module _ (d s : List ℕ) (k : ℕ) where
   -- A refused item has no state.
   pub refused_state : (m p : ℕ) → item_at d s k ≡ refuse m p → answer (state_of (item_at d s k)) ≡ refuse m p
   refused_state m p e = state_refused d s k m p e
+
+  -- A refusal has three zeros,
+  pub refused_zeros : (m p : ℕ) → item_at d s k ≡ refuse m p → given_state (item_at d s k) ≡ record { number = m; place = p; null = false; code = 0; lead = 0; value = 0; spare = 0 }
+  refused_zeros m p e = rw e
+
+  -- and of an item's state a program in C is given number 0, place 0 and the state itself.
+  pub state_as_given : (u : State) → state_of (item_at d s k) ≡ Ok u
+      → given_state (item_at d s k) ≡ record { number = 0; place = 0; null = u.null; code = u.code; lead = u.lead; value = u.value; spare = u.spare }
+  state_as_given u e = go (item_at d s k) e
+    where
+      go : (x : Result Note) → state_of x ≡ Ok u
+          → given_state x ≡ record { number = 0; place = 0; null = u.null; code = u.code; lead = u.lead; value = u.value; spare = u.spare }
+      go (refuse m p) e = absurd (let z : ◌≡◌ {A = ℕ} 0 1 = cc in let w : ⊥ = omega arith in w)
+      go (ok i) e = let w : state_by i ≡ u = cc in rw (← w)
 
   module _ (i : Note) (e : item_at d s k ≡ ok i) where
     -- The parts of the data that have these lengths, one behind the other from the item's start on, are those of the standard's account, for every type;

@@ -136,6 +136,9 @@ value d s k = do
   the (if i.is_null then some Null else read_by r (value_of s i)) 23 i.start
 
 -- The answers: what an accepted call returns, or its refusal (Returned). The list call returns nothing but writes its list: on a refusal it is as before.
+abbrev pub checked : Result ℕ → code.Result ℕ Refusal
+checked x = returned x
+
 abbrev pub listed : Result (List ℕ) → code.Result (Unit {0}) Refusal
 listed x = returned (x >>= λ l. ok tt)
 
@@ -165,7 +168,10 @@ whole_answer x = returned (x >>= λ v. ok (unless_null v.0 v.1))
 abbrev pub decimal_answer : Result (Bool × ℤ × ℕ) → code.Result Decimal Refusal
 decimal_answer x = returned (x >>= λ v. ok (record { value = unless_null v.0 v.1; fraction = v.2 }))
 
--- Programs in C are given the refusal's number and place, or zeros.
+abbrev pub value_answer : Result Value → code.Result Value Refusal
+value_answer x = returned x
+
+-- What programs in C are given: of an accepted call number 0 and place 0, of a refusal its own, zeros and no null mark.
 module _ {A : Type 0} where
   abbrev pub number_given : Result A → ℕ
   number_given (refuse n p) = n
@@ -174,3 +180,65 @@ module _ {A : Type 0} where
   abbrev pub place_given : Result A → ℕ
   place_given (refuse n p) = p
   place_given (ok a) = 0
+
+pub record GivenCheck : Type 0 where
+  pub number : ℕ
+  pub place : ℕ
+  pub items : ℕ
+
+abbrev pub given_check : Result ℕ → GivenCheck
+given_check (refuse n p) = record { number = n; place = p; items = 0 }
+given_check (ok n) = record { number = 0; place = 0; items = n }
+
+pub record GivenList : Type 0 where
+  pub number : ℕ
+  pub place : ℕ
+
+abbrev pub given_list : Result (List ℕ) → GivenList
+given_list (refuse n p) = record { number = n; place = p }
+given_list (ok l) = record { number = 0; place = 0 }
+
+-- A refusal gives three zeros for the lengths (Q-6).
+pub record GivenState : Type 0 where
+  pub number : ℕ
+  pub place : ℕ
+  pub null : Bool
+  pub code : ℕ
+  pub lead : ℕ
+  pub value : ℕ
+  pub spare : ℕ
+
+abbrev pub given_state : Result Note → GivenState
+given_state (refuse n p) = record { number = n; place = p; null = false; code = 0; lead = 0; value = 0; spare = 0 }
+given_state (ok i) = record { number = 0; place = 0; null = i.is_null; code = i.field.code; lead = i.lead; value = i.value; spare = i.spare }
+
+pub record GivenWhole : Type 0 where
+  pub number : ℕ
+  pub place : ℕ
+  pub null : Bool
+  pub value : ℤ
+
+abbrev pub given_whole : Result (Bool × ℤ) → GivenWhole
+given_whole (refuse n p) = record { number = n; place = p; null = false; value = pos 0 }
+given_whole (ok v) = record { number = 0; place = 0; null = v.0; value = v.1 }
+
+pub record GivenPacked : Type 0 where
+  pub number : ℕ
+  pub place : ℕ
+  pub null : Bool
+  pub value : ℤ
+  pub fraction : ℕ
+
+abbrev pub given_packed : Result (Bool × ℤ × ℕ) → GivenPacked
+given_packed (refuse n p) = record { number = n; place = p; null = false; value = pos 0; fraction = 0 }
+given_packed (ok v) = record { number = 0; place = 0; null = v.0; value = v.1; fraction = v.2 }
+
+-- A refusal of the value call gives the whole number 0.
+pub record GivenValue : Type 0 where
+  pub number : ℕ
+  pub place : ℕ
+  pub value : Value
+
+abbrev pub given_value : Result Value → GivenValue
+given_value (refuse n p) = record { number = n; place = p; value = Whole (pos 0) }
+given_value (ok v) = record { number = 0; place = 0; value = v }

@@ -27,7 +27,7 @@ use Rattle.fdoca.specs.Walk.{Note}
 use Rattle.fdoca.specs.Check.{check}
 use Rattle.fdoca.specs.Packed.{packed_number}
 use Rattle.fdoca.specs.Calls as calls
-use Rattle.fdoca.specs.Calls.{item_at, value_of, whole_of, digits_of, number_given, place_given, state_by, state_of, unless_null, whole_answer, decimal_answer}
+use Rattle.fdoca.specs.Calls.{item_at, value_of, whole_of, digits_of, entries_after, number_given, place_given, state_by, state_of, unless_null, whole_answer, decimal_answer}
 use Rattle.fdoca.proofs.Results.{ok_bind}
 use Rattle.fdoca.proofs.Demands.{check_returned, list_returned, state_returned, whole_returned, packed_returned, value_returned}
 use Rattle.blocks.specs.declared.Lent.{Lent}
@@ -62,6 +62,32 @@ module _ {A B : Type 0} (x : Result A) (f : A → B) (r : code.Result B Refusal)
       go : (x : Result A) → ((a : A) → x ≡ ok a → h (f a) ≡ g a) → h (result_unwrap_or (returned (x >>= (λ a. ok (f a)))) d) ≡ given zero g x
       go (refuse n p) same = none
       go (ok a) same = same a refl
+
+-- the parts make up what is given, of a refusal as of an answer
+module _ {n p : ℕ} where
+  check_parts : {i : ℕ} (x : Result ℕ) → n ≡ number_given x → p ≡ place_given x → i ≡ given 0 (λ n. n) x → CheckGiven x n p i
+  check_parts (refuse m q) a b c = record { returned = a; placed = b; counted = c }
+  check_parts (ok y) a b c = record { returned = a; placed = b; counted = c }
+
+  list_parts : {old new : List ℕ} (x : Result (List ℕ)) → n ≡ number_given x → p ≡ place_given x → new ≡ entries_after old x → ListGiven x old n p new
+  list_parts (refuse m q) a b c = record { returned = a; placed = b; entries = c }
+  list_parts (ok y) a b c = record { returned = a; placed = b; entries = c }
+
+  state_parts : {m c l v s : ℕ} (x : Result Note) → n ≡ number_given x → p ≡ place_given x → m ≡ given 0 (λ i. mark i.is_null) x → c ≡ given 0 (λ i. i.field.code) x → l ≡ given 0 (λ i. i.lead) x → v ≡ given 0 (λ i. i.value) x → s ≡ given 0 (λ i. i.spare) x → StateGiven x n p m c l v s
+  state_parts (refuse m q) a b c d e f g = record { returned = a; placed = b; marked = c; coded = d; led = e; sized = f; spared = g }
+  state_parts (ok y) a b c d e f g = record { returned = a; placed = b; marked = c; coded = d; led = e; sized = f; spared = g }
+
+  whole_parts : {m : ℕ} {z : ℤ} (x : Result (Bool × ℤ)) → n ≡ number_given x → p ≡ place_given x → m ≡ given 0 (λ v. mark v.0) x → z ≡ given (pos 0) (λ v. v.1) x → WholeGiven x n p m z
+  whole_parts (refuse m q) a b c d = record { returned = a; placed = b; marked = c; read = d }
+  whole_parts (ok y) a b c d = record { returned = a; placed = b; marked = c; read = d }
+
+  packed_parts : {m f : ℕ} {z : ℤ} (x : Result (Bool × ℤ × ℕ)) → n ≡ number_given x → p ≡ place_given x → m ≡ given 0 (λ v. mark v.0) x → z ≡ given (pos 0) (λ v. v.1) x → f ≡ given 0 (λ v. v.2) x → PackedGiven x n p m z f
+  packed_parts (refuse m q) a b c d e = record { returned = a; placed = b; marked = c; read = d; behind_the_point = e }
+  packed_parts (ok y) a b c d e = record { returned = a; placed = b; marked = c; read = d; behind_the_point = e }
+
+  value_parts : {kind : ℕ} {whole : ℤ} {real : Float} (x : Result Value) → n ≡ number_given x → p ≡ place_given x → kind ≡ kind_of (given (Whole (pos 0)) (λ v. v) x) → whole ≡ whole_in (given (Whole (pos 0)) (λ v. v) x) → real ≡ real_in (given (Whole (pos 0)) (λ v. v) x) → ValueGiven x n p kind whole real
+  value_parts (refuse m q) a b c d e = record { returned = a; placed = b; of_kind = c; of_whole = d; of_real = e }
+  value_parts (ok y) a b c d e = record { returned = a; placed = b; of_kind = c; of_whole = d; of_real = e }
 
 as_number : (t : Bool) → bool_byte t ≡ mark t
 as_number true = refl
@@ -115,13 +141,13 @@ pub check_given : (d : List ℕ) (r : code.Result ℕ Refusal) (n p i : ℕ) →
 check_given d r n p i e t u =
     let k = e ∙ itself (check d) in
     let m = numbers (check d) (λ a. a) r k (check_returned d) n p t in
-    record { returned = m.0; placed = m.1; counted = part (check d) (λ a. a) r k 0 i 0 (λ n. n) (λ n. n) u refl (λ a h. refl) }
+    check_parts (check d) m.0 m.1 (part (check d) (λ a. a) r k 0 i 0 (λ n. n) (λ n. n) u refl (λ a h. refl))
 
 pub list_given : (d s old new : List ℕ) (r : code.Result (Unit {0}) Refusal) (n p : ℕ) → ListedAs (calls.list d s old) old r new → Told r n p
     → ListGiven (calls.list d s old) old n p new
 list_given d s old new r n p l t =
     let m = numbers (calls.list d s old) (λ l. tt) r l.answered (list_returned d s old) n p t in
-    record { returned = m.0; placed = m.1; entries = l.entries }
+    list_parts (calls.list d s old) m.0 m.1 l.entries
 
 module _ (d s : List ℕ) (k : ℕ) where
   abbrev x : Result Note
@@ -132,15 +158,12 @@ module _ (d s : List ℕ) (k : ℕ) where
   state_given r n p m c y e t u a b =
       let z : State = record { null = false; code = 0; lead = 0; value = 0; spare = 0 } in
       let o = numbers x state_by r e (state_returned d s k) n p t in
-      record {
-        returned = o.0;
-        placed = o.1;
-        marked = a ∙ part x state_by r e z y 0 (λ i. mark i.is_null) (λ y. bool_byte y.null) u refl (λ i h. as_number i.is_null);
-        coded = b ∙ part x state_by r e z y 0 (λ i. i.field.code) (λ y. y.code) u refl (λ i h. refl);
-        led = part x state_by r e z y 0 (λ i. i.lead) (λ y. y.lead) u refl (λ i h. refl);
-        sized = part x state_by r e z y 0 (λ i. i.value) (λ y. y.value) u refl (λ i h. refl);
-        spared = part x state_by r e z y 0 (λ i. i.spare) (λ y. y.spare) u refl (λ i h. refl);
-      }
+      state_parts x o.0 o.1
+      (a ∙ part x state_by r e z y 0 (λ i. mark i.is_null) (λ y. bool_byte y.null) u refl (λ i h. as_number i.is_null))
+      (b ∙ part x state_by r e z y 0 (λ i. i.field.code) (λ y. y.code) u refl (λ i h. refl))
+      (part x state_by r e z y 0 (λ i. i.lead) (λ y. y.lead) u refl (λ i h. refl))
+      (part x state_by r e z y 0 (λ i. i.value) (λ y. y.value) u refl (λ i h. refl))
+      (part x state_by r e z y 0 (λ i. i.spare) (λ y. y.spare) u refl (λ i h. refl))
 
   pub lent_given : (r : code.Result Lent Refusal) (n p : ℕ) (y : Lent) → r ≡ lent_at x → IfOk r (λ l. l.offset + l.length ≤ length s) → Told r n p
       → y ≡ result_unwrap_or r (record { offset = 0; length = 0 }) → LentGiven x s n p y.offset y.length
@@ -168,12 +191,9 @@ module _ (d s : List ℕ) (k : ℕ) where
       let x : Result (Bool × ℤ) = calls.whole_number d s k in
       let f : Bool × ℤ → code.Option ℤ = λ v. unless_null v.0 v.1 in
       let o = numbers x f r e (whole_returned d s k) n p t in
-      record {
-        returned = o.0;
-        placed = o.1;
-        marked = a ∙ null_mark w b q ∙ part x f r e (Some (pos 0)) w 0 (λ v. mark v.0) (λ w. bool_byte (not (is_some w))) u refl (λ v h. marked_null v.0 v.1);
-        read = to_z-of_z fits ∙ v ∙ part x f r e (Some (pos 0)) w (pos 0) (λ v. v.1) (λ w. unwrap_or w (pos 0)) u refl (λ v h. number_or_0 v.0 v.1 (whole_null d s k v h));
-      }
+      whole_parts x o.0 o.1
+      (a ∙ null_mark w b q ∙ part x f r e (Some (pos 0)) w 0 (λ v. mark v.0) (λ w. bool_byte (not (is_some w))) u refl (λ v h. marked_null v.0 v.1))
+      (to_z-of_z fits ∙ v ∙ part x f r e (Some (pos 0)) w (pos 0) (λ v. v.1) (λ w. unwrap_or w (pos 0)) u refl (λ v h. number_or_0 v.0 v.1 (whole_null d s k v h)))
 
   pub packed_given : (r : code.Result Decimal Refusal) (n p m c : ℕ) (y : Decimal) (b : Bool) (z : ℤ) → r ≡ decimal_answer (calls.packed d s k) → Told r n p
       → y ≡ result_unwrap_or r (record { value = Some (pos 0); fraction = 0 }) → is_some y.value ≡ not b → m ≡ bool_byte b → z ≡ unwrap_or y.value (pos 0) → c ≡ y.fraction → SFits w64 z
@@ -183,13 +203,10 @@ module _ (d s : List ℕ) (k : ℕ) where
       let f : Bool × ℤ × ℕ → Decimal = λ v. record { value = unless_null v.0 v.1; fraction = v.2 } in
       let o : Decimal = record { value = Some (pos 0); fraction = 0 } in
       let j = numbers x f r e (packed_returned d s k) n p t in
-      record {
-        returned = j.0;
-        placed = j.1;
-        marked = a ∙ null_mark y.value b q ∙ part x f r e o y 0 (λ v. mark v.0) (λ y. bool_byte (not (is_some y.value))) u refl (λ v h. marked_null v.0 v.1);
-        read = to_z-of_z fits ∙ v ∙ part x f r e o y (pos 0) (λ v. v.1) (λ y. unwrap_or y.value (pos 0)) u refl (λ v h. number_or_0 v.0 v.1 (packed_null d s k v h));
-        behind_the_point = g ∙ part x f r e o y 0 (λ v. v.2) (λ y. y.fraction) u refl (λ v h. refl);
-      }
+      packed_parts x j.0 j.1
+      (a ∙ null_mark y.value b q ∙ part x f r e o y 0 (λ v. mark v.0) (λ y. bool_byte (not (is_some y.value))) u refl (λ v h. marked_null v.0 v.1))
+      (to_z-of_z fits ∙ v ∙ part x f r e o y (pos 0) (λ v. v.1) (λ y. unwrap_or y.value (pos 0)) u refl (λ v h. number_or_0 v.0 v.1 (packed_null d s k v h)))
+      (g ∙ part x f r e o y 0 (λ v. v.2) (λ y. y.fraction) u refl (λ v h. refl))
 
   pub value_given : (r : code.Result Value Refusal) (n p kind : ℕ) (whole : ℤ) (real : Float) (y : Value) → r ≡ returned (calls.value d s k) → Told r n p
       → y ≡ result_unwrap_or r (Whole (pos 0)) → kind ≡ kind_of y → whole ≡ whole_in y → real ≡ real_in y → SFits w64 whole
@@ -199,10 +216,4 @@ module _ (d s : List ℕ) (k : ℕ) where
       let q = e ∙ itself x in
       let o = numbers x (λ v. v) r q (value_returned d s k) n p t in
       let same : y ≡ given (Whole (pos 0)) (λ v. v) x = part x (λ v. v) r q (Whole (pos 0)) y (Whole (pos 0)) (λ v. v) (λ v. v) u refl (λ v h. refl) in
-      record {
-        returned = o.0;
-        placed = o.1;
-        of_kind = a ∙ ap kind_of same;
-        of_whole = to_z-of_z fits ∙ b ∙ ap whole_in same;
-        of_real = c ∙ ap real_in same;
-      }
+      value_parts x o.0 o.1 (a ∙ ap kind_of same) (to_z-of_z fits ∙ b ∙ ap whole_in same) (c ∙ ap real_in same)

@@ -6,7 +6,7 @@ use Rattle.fdoca.specs.declared.Value.{Value}
 use Rattle.fdoca.specs.declared.Value.TheVariants.{Null, Whole, Real}
 use Rattle.fdoca.specs.Basics.{Result, refuse, ok}
 use Rattle.fdoca.specs.Walk.{Note}
-use Rattle.fdoca.specs.Calls.{entries_after, number_given, place_given}
+use Rattle.fdoca.specs.Calls.{entries_after, number_given, place_given, given_check, given_list, given_state, given_whole, given_packed, given_value}
 
 -- A part of what an accepted call gives, or of a refusal `zero`.
 module _ {A B : Type 0} where
@@ -16,14 +16,14 @@ module _ {A B : Type 0} where
 
 -- The check, which gives x.
 pub record CheckGiven (x : Result ℕ) (number place items : ℕ) : Type 0 where
-  pub returned : number ≡ number_given x
-  pub placed : place ≡ place_given x
-  pub counted : items ≡ given 0 (λ n. n) x
+  pub returned : number ≡ (given_check x).number
+  pub placed : place ≡ (given_check x).place
+  pub counted : items ≡ (given_check x).items
 
 -- The list call, which gives x, over a list that held `old`.
 pub record ListGiven (x : Result (List ℕ)) (old : List ℕ) (number place : ℕ) (new : List ℕ) : Type 0 where
-  pub returned : number ≡ number_given x
-  pub placed : place ≡ place_given x
+  pub returned : number ≡ (given_list x).number
+  pub placed : place ≡ (given_list x).place
   pub entries : new ≡ entries_after old x
 
 -- The null mark as a number: 1, and 0 where there is none.
@@ -32,13 +32,13 @@ mark null = if null then 1 else 0
 
 -- The state of the item x, with its three lengths.
 pub record StateGiven (x : Result Note) (number place null code lead value spare : ℕ) : Type 0 where
-  pub returned : number ≡ number_given x
-  pub placed : place ≡ place_given x
-  pub marked : null ≡ given 0 (λ i. mark i.is_null) x
-  pub coded : code ≡ given 0 (λ i. i.field.code) x
-  pub led : lead ≡ given 0 (λ i. i.lead) x
-  pub sized : value ≡ given 0 (λ i. i.value) x
-  pub spared : spare ≡ given 0 (λ i. i.spare) x
+  pub returned : number ≡ (given_state x).number
+  pub placed : place ≡ (given_state x).place
+  pub marked : null ≡ mark (given_state x).null
+  pub coded : code ≡ (given_state x).code
+  pub led : lead ≡ (given_state x).lead
+  pub sized : value ≡ (given_state x).value
+  pub spared : spare ≡ (given_state x).spare
 
 -- Where the value of the item x lies in the data s: within them, also where it is empty.
 pub record LentGiven (x : Result Note) (s : List ℕ) (number place offset size : ℕ) : Type 0 where
@@ -50,18 +50,18 @@ pub record LentGiven (x : Result Note) (s : List ℕ) (number place offset size 
 
 -- The whole-number read, which gives x.
 pub record WholeGiven (x : Result (Bool × ℤ)) (number place null : ℕ) (value : ℤ) : Type 0 where
-  pub returned : number ≡ number_given x
-  pub placed : place ≡ place_given x
-  pub marked : null ≡ given 0 (λ v. mark v.0) x
-  pub read : value ≡ given (pos 0) (λ v. v.1) x
+  pub returned : number ≡ (given_whole x).number
+  pub placed : place ≡ (given_whole x).place
+  pub marked : null ≡ mark (given_whole x).null
+  pub read : value ≡ (given_whole x).value
 
 -- The read of a packed item, which gives x.
 pub record PackedGiven (x : Result (Bool × ℤ × ℕ)) (number place null : ℕ) (value : ℤ) (fraction : ℕ) : Type 0 where
-  pub returned : number ≡ number_given x
-  pub placed : place ≡ place_given x
-  pub marked : null ≡ given 0 (λ v. mark v.0) x
-  pub read : value ≡ given (pos 0) (λ v. v.1) x
-  pub behind_the_point : fraction ≡ given 0 (λ v. v.2) x
+  pub returned : number ≡ (given_packed x).number
+  pub placed : place ≡ (given_packed x).place
+  pub marked : null ≡ mark (given_packed x).null
+  pub read : value ≡ (given_packed x).value
+  pub behind_the_point : fraction ≡ (given_packed x).fraction
 
 -- The kind of a value: 0 null, 1 a whole number, 2 a 64-bit float; and its whole number and its float, of which what a kind has not is 0.
 abbrev pub kind_of : Value → ℕ
@@ -79,10 +79,10 @@ real_in Null = fin false 0 (pos 0)
 real_in (Whole z) = fin false 0 (pos 0)
 real_in (Real v) = v
 
--- The value call, which gives x. A refusal has the whole number 0.
+-- The value call, which gives x.
 pub record ValueGiven (x : Result Value) (number place kind : ℕ) (whole : ℤ) (real : Float) : Type 0 where
-  pub returned : number ≡ number_given x
-  pub placed : place ≡ place_given x
-  pub of_kind : kind ≡ kind_of (given (Whole (pos 0)) (λ v. v) x)
-  pub of_whole : whole ≡ whole_in (given (Whole (pos 0)) (λ v. v) x)
-  pub of_real : real ≡ real_in (given (Whole (pos 0)) (λ v. v) x)
+  pub returned : number ≡ (given_value x).number
+  pub placed : place ≡ (given_value x).place
+  pub of_kind : kind ≡ kind_of (given_value x).value
+  pub of_whole : whole ≡ whole_in (given_value x).value
+  pub of_real : real ≡ real_in (given_value x).value
