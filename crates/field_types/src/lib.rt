@@ -222,7 +222,8 @@ pub fn plain_code(code: u8) -> u8
 }
 
 impl FieldType {
-    // The type that a code stands for, plain or nullable.
+    // The type that a code stands for, plain or nullable. Inlined, so that who asks for one type makes one comparison.
+    #[inline(always)]
     #[tactic(auto, unfolding(fdoca::specs::FieldType::type_of))]
     pub fn of_code(code: u8) -> Option<FieldType>
         ensures { maybe_defined result ≡ type_of code }

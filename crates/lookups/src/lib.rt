@@ -76,6 +76,8 @@ pub fn find(descriptor: &[u8], data: &[u8], item: u32) -> Result<Found, Refusal>
         });
     }
     let mut tables = Tables::new();
-    let x = descriptors::examine(descriptor, &mut tables)?;
-    find_planned(descriptor, &tables, x, data, item)
+    match descriptors::examine(descriptor, &mut tables) {
+        Ok(x) => find_planned(descriptor, &tables, x, data, item),
+        Err(refusal) => Err(refusal),
+    }
 }

