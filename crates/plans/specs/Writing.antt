@@ -1,5 +1,5 @@
 -- What the functions that write a plan find at a place of a descriptor.
-use Rattle.std.specs.Prelude.{ℕ, ◌+◌, ◌*◌, ◌/◌, ◌%◌, ◌≡◌, List, eqb, get_or, if◌then◌else◌}
+use Rattle.std.specs.Prelude.{ℕ, ◌+◌, ◌-◌, ◌*◌, ◌/◌, ◌%◌, ◌≡◌, List, ltb, eqb, length, get_or, if◌then◌else◌}
 use Rattle.std.proofs.Math.Option.{some}
 use Rattle.fdoca.specs.Basics.{lookup}
 use Rattle.fdoca.specs.Triplet.{Kind, Group, taken}
@@ -24,3 +24,10 @@ pub record RefersRow (d : List ℕ) (g : Group) : Type 0 where
 -- How many items a group takes once of an SDA of this size (`SdaKept`): all, or elements taken times the product of the lower extents.
 unfoldable pub entries_taken : (size taken : ℕ) → ℕ
 entries_taken size taken = if eqb taken 0 then size % 65536 else taken * (size / 65536)
+
+-- The end of the CPT at g; 0 where none stands there.
+unfoldable pub end_of_cpt : List ℕ → (g : ℕ) → ℕ
+end_of_cpt d g =
+    if ltb (length d - g) 3 then 0
+    else if eqb (get_or d (g + 1) 0) 0x7F then g + get_or d g 0
+    else 0

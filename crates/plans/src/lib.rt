@@ -8,7 +8,7 @@ ghost use Rattle.fdoca.specs.Basics.{repeat};
 ghost use Rattle.fields.specs.Plan.{entry_of};
 ghost use Rattle.plans.specs.Tied.{list_of, kind_of, groups_at, row_list, Refers, RowAt, TiedTo, Known};
 ghost use Rattle.plans.specs.Left.{group_of};
-ghost use Rattle.plans.specs.Writing.{group_list, entries_taken};
+ghost use Rattle.plans.specs.Writing.{group_list, entries_taken, end_of_cpt};
 
 use tables::Tables;
 
@@ -49,6 +49,18 @@ pub fn taken_count(tables: &Tables, id: u8, taken: u8) -> usize
         return tables.count(id);
     }
     usize::from(taken) * tables.lower(id)
+}
+
+// The end of the CPT at g; 0 where none stands there. For callers outside: here the groups of a row go over its CPTs (`Groups`).
+#[tactic(auto, unfolding(crate::specs::Writing::end_of_cpt))]
+pub fn cpt_end(desc: &[u8], g: usize) -> usize
+    requires { g ≤ length desc.now }
+    ensures { result ≡ end_of_cpt desc.now g }
+{
+    if desc.len() - g < 3 || desc[g + 1] != CPT {
+        return 0;
+    }
+    g + usize::from(desc[g])
 }
 
 // Three bytes of an RLO, a GDA or a CPT: the id of a triplet, and in an RLO elements taken and the repetition factor, in a GDA the length.

@@ -4,7 +4,8 @@ use Rattle.std.proofs.Math.Option.{none, some}
 use Rattle.std.proofs.Math.Option as defined_option
 use Rattle.fdoca.specs.Basics.{lookup}
 use Rattle.fdoca.specs.Calls as defined
-use Rattle.fdoca.specs.Calls.{whole, float}
+use Rattle.fdoca.specs.Calls.{whole, float, reading_by}
+use Rattle.fdoca.specs.FieldType.{FieldType, types}
 use Rattle.floats.specs.declared.Format.{Format}
 use Rattle.floats.specs.declared.Format.TheVariants.{ShortBinary, LongBinary}
 use Rattle.floats.specs.Format.{format_of}
@@ -26,3 +27,11 @@ by_length F reversed short long = lookup F ((4, float reversed (format_of short)
 
 abbrev pub binary_by : (F bias : ℕ) → (reversed : Bool) → defined_option.Option defined.Reading
 binary_by F bias reversed = if eqb bias 0 then by_length F reversed ShortBinary LongBinary else none
+
+-- By a plain code: none where it stands for no type.
+abbrev pub reading_if : defined_option.Option FieldType → (F bias : ℕ) → defined_option.Option defined.Reading
+reading_if none F bias = none
+reading_if (some T) F bias = reading_by T F bias
+
+abbrev pub reading_for : (plain F bias : ℕ) → defined_option.Option defined.Reading
+reading_for plain F bias = reading_if (lookup plain types) F bias

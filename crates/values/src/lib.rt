@@ -3,11 +3,11 @@
 #![tactic(auto)]
 
 ghost use Rattle.std.specs.Prelude.{◌≡◌, ◌≤◌, length};
-ghost use Rattle.fdoca.specs.Basics.{the};
+ghost use Rattle.fdoca.specs.Basics.{is_some, the};
 ghost use Rattle.fdoca.specs.Calls.{read_by, reading_by};
 ghost use Rattle.fdoca.specs.Returned.{returned};
 ghost use Rattle.field_types.specs.Types.{defined_type};
-ghost use Rattle.values.specs.Reading.{defined_reading, maybe_defined, by_length, binary_by};
+ghost use Rattle.values.specs.Reading.{defined_reading, maybe_defined, by_length, binary_by, reading_for};
 
 use fdoca::{Reason, Refusal, Value};
 use field_types::FieldType;
@@ -90,5 +90,20 @@ impl Reading {
                 Ok(Value::Real(float))
             }
         }
+    }
+}
+
+// Whether the value of a field is read, by its plain type code, its length and its bias indicator. For callers outside: the value call asks
+// `Reading::of_type` for the reading itself.
+#[tactic(auto, using(crate::proofs::Plain::no_plain, crate::proofs::Plain::of_no_type, crate::proofs::Plain::of_a_type))]
+pub fn is_read(plain: u8, size: u64, bias: u64) -> bool
+    ensures { result ≡ is_some (reading_for plain size bias) }
+{
+    if 128 <= plain {
+        return false;
+    }
+    match FieldType::of_code(plain) {
+        Some(field_type) => Reading::of_type(field_type, size, bias).is_some(),
+        None => false,
     }
 }
