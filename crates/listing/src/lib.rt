@@ -162,7 +162,7 @@ fn write_by(
             text.first(count, data.len());
             text.items(&plan[..count], data);
         }
-        Err(refusal) => text.refusal(refusal),
+        Err(stop) => text.refusal(stop),
     }
 }
 
