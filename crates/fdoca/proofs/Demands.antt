@@ -29,7 +29,7 @@ use Rattle.fdoca.specs.Unfolding.{fields_added, field_of, unfolded, repeated}
 use Rattle.fdoca.specs.Unfolding as U
 use Rattle.fdoca.specs.Account.{NonZero, Item, Parts, Block, Packed}
 use Rattle.fdoca.specs.Calls as calls
-use Rattle.fdoca.specs.Calls.{max_data, oversize, item_list, small, list, item_at, value_of, whole_of, whole_number, packed, entries_after, state_by, state_of, lent, number_given, given_state, Reading, whole, float, reading_of, ordered, signed, read_by}
+use Rattle.fdoca.specs.Calls.{max_data, oversize, item_list, small, list, item_at, value_of, whole_of, whole_number, packed, entries_after, state_by, state_of, lent, number_given, place_given, given_check, given_list, given_state, given_whole, given_packed, given_value, Reading, whole, float, reading_of, ordered, signed, read_by}
 use Rattle.fdoca.specs.Returned.{returned, answer}
 use Rattle.fdoca.specs.Packed.{packed_number}
 use Rattle.fdoca.specs.Float as float_specs
@@ -147,6 +147,31 @@ packed_number_0 d s k = number_0 (λ t m p r. packed_number_lem r) (packed_told 
 
 pub value_number_0 : (d s : List ℕ) (k : ℕ) → (number_given (calls.value d s k) ≡ 0) ↔ None (OfValue d s k)
 value_number_0 d s k = number_0 (λ t m p r. value_number r) (value_told d s k)
+
+-- programs in C are given that number, and the place with it;
+pub check_number_given : (x : Result ℕ) → ((given_check x).number ≡ number_given x) × ((given_check x).place ≡ place_given x)
+check_number_given (refuse m p) = (refl, refl)
+check_number_given (ok a) = (refl, refl)
+
+pub list_number_given : (x : Result (List ℕ)) → ((given_list x).number ≡ number_given x) × ((given_list x).place ≡ place_given x)
+list_number_given (refuse m p) = (refl, refl)
+list_number_given (ok a) = (refl, refl)
+
+pub state_number_given : (x : Result Note) → ((given_state x).number ≡ number_given x) × ((given_state x).place ≡ place_given x)
+state_number_given (refuse m p) = (refl, refl)
+state_number_given (ok a) = (refl, refl)
+
+pub whole_number_given : (x : Result (Bool × ℤ)) → ((given_whole x).number ≡ number_given x) × ((given_whole x).place ≡ place_given x)
+whole_number_given (refuse m p) = (refl, refl)
+whole_number_given (ok a) = (refl, refl)
+
+pub packed_number_given : (x : Result (Bool × ℤ × ℕ)) → ((given_packed x).number ≡ number_given x) × ((given_packed x).place ≡ place_given x)
+packed_number_given (refuse m p) = (refl, refl)
+packed_number_given (ok a) = (refl, refl)
+
+pub value_number_given : (x : Result Value) → ((given_value x).number ≡ number_given x) × ((given_value x).place ≡ place_given x)
+value_number_given (refuse m p) = (refl, refl)
+value_number_given (ok a) = (refl, refl)
 
 -- and it is the number of a reason, so that what a call returns says which refusal it is.
 pub check_returned : (d : List ℕ) → answer (returned (check d)) ≡ check d
