@@ -76,6 +76,7 @@ pub fn find(descriptor: &[u8], data: &[u8], item: u32) -> Result<Found, Refusal>
         });
     }
     let mut tables = Tables::new();
+    // A match in place of `?`, so that the refusal is handed on as a value that a must-fail edit can change.
     match descriptors::examine(descriptor, &mut tables) {
         Ok(x) => find_planned(descriptor, &tables, x, data, item),
         Err(refusal) => Err(refusal),
