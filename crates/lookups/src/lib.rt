@@ -46,6 +46,7 @@ fn find_by(
 
 // One item of an accepted descriptor's block, with a plan in the smaller buffer that holds it. The call stands twice, once for each size: with the size as
 // a parameter the choice between two calls would stand here still.
+#[inline(always)]
 fn find_planned(
     desc: &[u8],
     tables: &Tables,
@@ -65,7 +66,8 @@ fn find_planned(
     find_by(desc, tables, x, &mut many[..n], data, item)
 }
 
-// The item of a number, or the refusal.
+// The item of a number, or the refusal. Inlined with the choice of a plan, so that what is found is not handed on through memory.
+#[inline(always)]
 pub fn find(descriptor: &[u8], data: &[u8], item: u32) -> Result<Found, Refusal>
     ensures { FoundAs (item_at descriptor.now «data».now item) «data».now result }
 {
