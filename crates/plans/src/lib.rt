@@ -51,7 +51,7 @@ pub fn taken_count(tables: &Tables, id: u8, taken: u8) -> usize
     usize::from(taken) * tables.lower(id)
 }
 
-// The end of the CPT at g; 0 where none stands there. For callers outside: here the groups of a row go over its CPTs (`Groups`).
+// The end of the CPT at g; 0 where none stands there. No crate here asks for it: `Groups` goes over a row's CPTs by itself.
 #[tactic(auto, unfolding(crate::specs::Writing::end_of_cpt))]
 pub fn cpt_end(desc: &[u8], g: usize) -> usize
     requires { g ≤ length desc.now }

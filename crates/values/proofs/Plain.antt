@@ -1,7 +1,7 @@
 -- How a plain code is read: by the type that it stands for.
 -- Assumes nothing.
 use Rattle.std.specs.Prelude as code
-use Rattle.std.specs.Prelude.{Some, None, MatchOption}
+use Rattle.std.specs.Prelude.{Some, None}
 use Rattle.std.specs.Option as code_option
 use mathlib.Core.Path.{◌≡◌, refl, sym, ap, ◌∙◌}
 use Prim.Native.Nat.{ℕ, ◌≤◌, ◌<◌}

@@ -93,8 +93,8 @@ impl Reading {
     }
 }
 
-// Whether the value of a field is read, by its plain type code, its length and its bias indicator. For callers outside: the value call asks
-// `Reading::of_type` for the reading itself.
+// Whether the value of a field is read, by its plain type code, its length and its bias indicator. No crate here asks for it: the value call takes
+// the reading itself, from `Reading::of_type`.
 #[tactic(auto, using(crate::proofs::Plain::no_plain, crate::proofs::Plain::of_no_type, crate::proofs::Plain::of_a_type))]
 pub fn is_read(plain: u8, size: u64, bias: u64) -> bool
     ensures { result ≡ is_some (reading_for plain size bias) }
